@@ -1,0 +1,12 @@
+pub mod Decide
+pub mod Clearing
+pub mod Writing
+pub mod Characters
+pub mod Bytes
+pub mod Numbering
+pub mod Trimming
+pub mod Decimals
+pub mod Lending
+pub mod SplitLaws
+pub mod Copying
+pub mod Areas

@@ -1,0 +1,25 @@
+use borrow.Author.Needs.{needs}
+use native.Mathlib.Omega.{arith}
+use mathlib.Core.Path.{_≡_, refl, sym, ap, _∙_}
+use Prim.Native.Nat.{ℕ, suc, _+_, _-_, _≤_, _<_}
+use mathlib.Core.List.{List, [], _∷_, _++_}
+use lib.ListN.{length, getD}
+use Rattle.text.specs.Ascii.{inside}
+use Rattle.text.proofs.Decide.{decide}
+use Rattle.text.proofs.scan.is_inside.Statement.{statement}
+use Rattle.text.proofs.scan.is_inside.Tie as tie
+use Rattle.text.proofs.scan.is_inside.Reads as reads
+use Rattle.text.proofs.scan.is_inside.Lts as lts
+
+-- src/scan.rt:22:9
+returns : tie.Need-returns
+unfolding inside
+returns c = sym (search decide depth 12)
+
+-- src/scan.rt:18:1
+returns-2 : tie.Need-returns-2
+unfolding inside
+returns-2 c = sym (search decide depth 12)
+
+pub is-inside-spec : {M : Type 1} → statement M
+is-inside-spec = tie.close (tie.spec returns returns-2)

@@ -1,0 +1,77 @@
+use borrow.Author.Needs.{needs}
+use native.Mathlib.Omega.{arith}
+use mathlib.Core.Path.{_≡_, refl, sym, ap, _∙_}
+use Prim.Native.Nat.{ℕ, suc, _+_, _-_, _≤_, _<_}
+use mathlib.Core.List.{List, [], _∷_, _++_}
+use lib.ListN.{length, getD}
+use native.Mathlib.Nat.{le-antisymm}
+use Rattle.text.proofs.Trimming.{onto, lines-none, lines-more, lines-feed, lines-last}
+use Rattle.text.specs.Lines.{lines}
+use Rattle.text.specs.Cells.{cells, part}
+use Rattle.text.proofs.trim.line_end.Statement.{statement}
+use Rattle.text.proofs.trim.line_end.Tie as tie
+use Rattle.text.proofs.trim.line_end.Reads as reads
+use Rattle.text.proofs.trim.line_end.Lts as lts
+use Rattle.text.proofs.trim.is_feed.Reads as is-feed-reads
+
+abbrev Inv-loop : tie.InvT-loop
+Inv-loop src from end i₀ i = (i₀ ≤ i) × (i ≤ end) × (lines (part i₀ end (cells src from)) ≡ onto (part i₀ i (cells src from)) (lines (part i end (cells src from))))
+
+abbrev μ-loop : tie.MeasureT-loop
+μ-loop src from end i₀ i = end - i
+
+loop-holds : tie.Need-loop-holds Inv-loop μ-loop
+loop-holds c = (search needs, search needs, lines-none (c .before .before .args .a .0) _ _)
+
+shared-slice-read-is-feed : tie.Need-shared-slice-read-is-feed Inv-loop μ-loop
+shared-slice-read-is-feed c = search needs
+
+mul-is-feed : tie.Need-mul-is-feed Inv-loop μ-loop
+mul-is-feed c = search needs
+
+shared-slice-read-is-feed-2 : tie.Need-shared-slice-read-is-feed-2 Inv-loop μ-loop
+shared-slice-read-is-feed-2 c = search needs
+
+is-feed-requires : tie.Need-is-feed-requires Inv-loop μ-loop
+is-feed-requires c κs = search needs
+
+returns : tie.Need-returns Inv-loop μ-loop
+returns c =
+    let l = c .before .before .before .before .before in
+    let a = l .before .before .before .args in
+    (search needs, (search needs, l .loop .inv .2 ∙ lines-feed _ _ (a .a .0) (l .loop .i) (a .e .0) (omega arith) (omega arith) (omega arith) (omega arith) (sym (c .before .is-feed .ensures) ∙ c .if1 .taken)))
+
+add-i : tie.Need-add-i Inv-loop μ-loop
+add-i c = search needs
+
+loop-less : tie.Need-loop-less Inv-loop μ-loop
+loop-less c = search needs
+
+loop-again : tie.Need-loop-again Inv-loop μ-loop
+loop-again c =
+    let l = c .before .before .before .before .before in
+    let a = l .before .before .before .args in
+    (search needs, search needs, l .loop .inv .2 ∙ lines-more _ _ (a .a .0) (l .loop .i) (a .e .0) (omega arith) (omega arith) (omega arith) (omega arith) (sym (c .before .is-feed .ensures) ∙ c .if1 .left))
+
+returns-2 : tie.Need-returns-2 Inv-loop μ-loop
+returns-2 c =
+    let l = c .before in
+    let a = l .before .before .before .args in
+    (search needs, (search needs, l .loop .inv .2 ∙ lines-last _ _ (a .a .0) (l .loop .i) (a .e .0) (omega arith) (omega arith) (omega arith) (omega arith)))
+
+pub line-end-spec : {M : Type 1} → statement M
+line-end-spec =
+    tie.close
+    (tie.spec
+    Inv-loop
+    μ-loop
+    loop-holds
+    shared-slice-read-is-feed
+    mul-is-feed
+    shared-slice-read-is-feed-2
+    is-feed-requires
+    returns
+    add-i
+    loop-less
+    loop-again
+    returns-2)

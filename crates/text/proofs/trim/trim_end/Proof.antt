@@ -1,0 +1,68 @@
+use borrow.Author.Needs.{needs}
+use native.Mathlib.Omega.{arith}
+use mathlib.Core.Path.{_≡_, refl, sym, ap, _∙_}
+use Prim.Native.Nat.{ℕ, suc, _+_, _-_, _≤_, _<_}
+use mathlib.Core.List.{List, [], _∷_, _++_}
+use lib.ListN.{length, getD}
+use Rattle.text.proofs.Trimming.{trimEnd-blank, trimEnd-other, trimEnd-end}
+use Rattle.text.specs.Lines.{trimEnd}
+use Rattle.text.specs.Cells.{cells, part}
+use Rattle.text.proofs.trim.trim_end.Statement.{statement}
+use Rattle.text.proofs.trim.trim_end.Tie as tie
+use Rattle.text.proofs.trim.trim_end.Reads as reads
+use Rattle.text.proofs.trim.trim_end.Lts as lts
+
+abbrev Inv-loop : tie.InvT-loop
+Inv-loop src from start i₀ i = (start ≤ i) × (i ≤ i₀) × (trimEnd (part start i₀ (cells src from)) ≡ trimEnd (part start i (cells src from)))
+
+abbrev μ-loop : tie.MeasureT-loop
+μ-loop src from start i₀ i = i - start
+
+loop-holds : tie.Need-loop-holds Inv-loop μ-loop
+loop-holds c = (search needs, search needs, refl)
+
+sub-if1 : tie.Need-sub-if1 Inv-loop μ-loop
+sub-if1 c = search needs
+
+mul-if1 : tie.Need-mul-if1 Inv-loop μ-loop
+mul-if1 c = search needs
+
+shared-slice-read-if1 : tie.Need-shared-slice-read-if1 Inv-loop μ-loop
+shared-slice-read-if1 c = search needs
+
+returns : tie.Need-returns Inv-loop μ-loop
+returns c =
+    let l = c .before .before .before in
+    (search needs, (search needs, sym (l .loop .inv .2 ∙ trimEnd-other _ _ (l .before .args .a .0) (l .loop .i - 1) (l .loop .i) (omega arith) (omega arith) (omega arith) (omega arith) (c .if1 .taken))))
+
+sub-i : tie.Need-sub-i Inv-loop μ-loop
+sub-i c = search needs
+
+loop-less : tie.Need-loop-less Inv-loop μ-loop
+loop-less c = search needs
+
+loop-again : tie.Need-loop-again Inv-loop μ-loop
+loop-again c =
+    let l = c .before .before .before in
+    (search needs, search needs, l .loop .inv .2 ∙ trimEnd-blank _ _ (l .before .args .a .0) (l .loop .i - 1) (l .loop .i) (omega arith) (omega arith) (omega arith) (omega arith) (c .if1 .left))
+
+returns-2 : tie.Need-returns-2 Inv-loop μ-loop
+returns-2 c =
+    let l = c .before in
+    (search needs, (search needs, sym (l .loop .inv .2 ∙ trimEnd-end _ (l .before .args .a .0) (l .loop .i) (omega arith))))
+
+pub trim-end-spec : {M : Type 1} → statement M
+trim-end-spec =
+    tie.close
+    (tie.spec
+    Inv-loop
+    μ-loop
+    loop-holds
+    sub-if1
+    mul-if1
+    shared-slice-read-if1
+    returns
+    sub-i
+    loop-less
+    loop-again
+    returns-2)

@@ -1,0 +1,40 @@
+use borrow.Author.Needs.{needs}
+use native.Mathlib.Omega.{arith}
+use mathlib.Core.Path.{_≡_, refl, sym, ap, _∙_}
+use Prim.Native.Nat.{ℕ, suc, _+_, _-_, _≤_, _<_}
+use mathlib.Core.List.{List, [], _∷_, _++_}
+use lib.ListN.{length, getD}
+use Rattle.text.proofs.Clearing.{cells-bytes, cells-origins}
+use Rattle.text.specs.Writes.{padded}
+use Rattle.text.proofs.write.lay_out.Statement.{statement}
+use Rattle.text.proofs.write.lay_out.Tie as tie
+use Rattle.text.proofs.write.lay_out.Reads as reads
+use Rattle.text.proofs.write.lay_out.Lts as lts
+use Rattle.text.proofs.write.lay_bytes.Reads as lay-bytes-reads
+use Rattle.text.proofs.write.lay_origins.Reads as lay-origins-reads
+
+lay-bytes-requires : tie.Need-lay-bytes-requires
+lay-bytes-requires c κs = search needs
+
+lay-origins-requires : tie.Need-lay-origins-requires
+lay-origins-requires c κs = search needs
+
+same-length : tie.Need-same-length
+same-length c = search needs
+
+same-length-2 : tie.Need-same-length-2
+same-length-2 c = search needs
+
+returns : tie.Need-returns
+returns c =
+    let g = c .before .before in
+    let b = g .before .before .before .before in
+    let a = b .before .before .before .before .before .before .args in
+    record {
+      text = b .lay-bytes .ensures ∙ ap (padded (length (a .out .now))) (sym (cells-bytes (a .n) (a .src .now) (a .from .now) (omega arith) (omega arith)));
+      from = g .lay-origins .ensures ∙ ap (padded (length (a .plain .now))) (sym (cells-origins (a .n) (a .src .now) (a .from .now) (omega arith) (omega arith)));
+    }
+
+pub lay-out-spec : {M : Type 1} → statement M
+lay-out-spec =
+    tie.close (tie.spec lay-bytes-requires lay-origins-requires same-length same-length-2 returns)

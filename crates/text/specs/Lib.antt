@@ -1,0 +1,10 @@
+pub mod Ascii
+pub mod Utf8
+pub mod Blanks
+pub mod Cells
+pub mod Lines
+pub mod Decimal
+pub mod Writes
+pub mod Split
+pub mod Origins
+pub mod Lent

@@ -1,0 +1,137 @@
+// The 25 blank characters, and the cells of a post.
+use crate::scan::byte_at;
+use crate::scan::is_inside;
+ghost use mathlib.Core.Path.{_≡_};
+ghost use Prim.Native.Nat.{_≤_, _<_};
+ghost use lib.ListN.{length, drop};
+ghost use Rattle.text.specs.Blanks.{blank1, blank2, blankE280, blank3, blankWidth, blankSize};
+ghost use Rattle.text.specs.Cells.{cells, cellsOf, Placed};
+
+fn is_blank1(a: u8) -> bool
+    ensures { λ r. ⌜ r ≡ blank1 a ⌝ }
+{
+    if is_inside(0x09, 0x0d, a) {
+        return true;
+    }
+    a == 0x20
+}
+
+fn is_blank2(a: u8, b: u8) -> bool
+    ensures { λ r. ⌜ r ≡ blank2 a b ⌝ }
+{
+    if a == 0xc2 {
+        if b == 0x85 {
+            return true;
+        }
+        return b == 0xa0;
+    }
+    false
+}
+
+fn is_blank_e280(c: u8) -> bool
+    ensures { λ r. ⌜ r ≡ blankE280 c ⌝ }
+{
+    if is_inside(0x80, 0x8a, c) {
+        return true;
+    }
+    if is_inside(0xa8, 0xa9, c) {
+        return true;
+    }
+    c == 0xaf
+}
+
+fn is_blank3(a: u8, b: u8, c: u8) -> bool
+    ensures { λ r. ⌜ r ≡ blank3 a b c ⌝ }
+{
+    if a == 0xe1 {
+        if b == 0x9a {
+            return c == 0x80;
+        }
+        return false;
+    }
+    if a == 0xe2 {
+        if b == 0x80 {
+            return is_blank_e280(c);
+        }
+        if b == 0x81 {
+            return c == 0x9f;
+        }
+        return false;
+    }
+    if a == 0xe3 {
+        if b == 0x80 {
+            return c == 0x80;
+        }
+    }
+    false
+}
+
+fn blank_width(a: u8, b: u8, c: u8) -> usize
+    ensures { λ r. ⌜ r ≡ blankWidth a b c ⌝ }
+{
+    if is_blank1(a) {
+        return 1;
+    }
+    if is_blank2(a, b) {
+        return 2;
+    }
+    if is_blank3(a, b, c) {
+        return 3;
+    }
+    0
+}
+
+// How many bytes the blank character at i has, 0 where none is there.
+fn blank_size(s: &[u8], i: usize) -> usize
+    requires { ⌜ i < length (now s) ⌝ }
+    ensures { λ r. ⌜ r ≡ blankSize (drop i (now (s .entry))) ⌝ }
+{
+    let a = s[i];
+    if a < 0x80 {
+        return blank_width(a, 0, 0);
+    }
+    blank_width(a, byte_at(s, i + 1), byte_at(s, i + 2))
+}
+
+// The number of a byte's cell, as far as its character decides it: 1 where it is blank, else 0; and how many bytes are left of a blank
+// character behind the byte.
+pub struct Place {
+    pub blank: u32,
+    pub more: usize,
+}
+
+// The place of the byte at i, where `more` bytes are left of a blank character that began before it.
+pub fn place_at(s: &[u8], i: usize, more: usize) -> Place
+    requires { ⌜ i < length (now s) ⌝ }
+    ensures { λ r. ⌜ Placed more (drop i (now (s .entry))) (r .blank) (r .more) ⌝ }
+{
+    if 0 < more {
+        return Place {
+            blank: 1,
+            more: more - 1,
+        };
+    }
+    let n = blank_size(s, i);
+    if n == 0 {
+        return Place { blank: 0, more: 0 };
+    }
+    Place {
+        blank: 1,
+        more: n - 1,
+    }
+}
+
+// Numbers the bytes of a text as a post's cells.
+pub fn number(s: &[u8], nums: &mut [u32])
+    requires { ⌜ (length (now s) ≤ 262144) × (length (now s) ≤ length (now nums)) ⌝ }
+    ensures { λ _. ⌜ cells (now (s .entry)) (now (nums .exit)) ≡ cellsOf (now (s .entry)) ⌝ }
+{
+    let mut more: usize = 0;
+    let mut i: usize = 0;
+    while i < s.len() {
+        let p = place_at(s, i, more);
+        nums[i] = 2 * ((i + 1) as u32) + p.blank;
+        more = p.more;
+        i += 1;
+    }
+}

@@ -1,0 +1,70 @@
+// Reading bytes: ranges, tag letters in either ASCII case, the next `]`.
+use crate::PostAt;
+ghost use mathlib.Core.Path.{_≡_};
+ghost use Prim.Native.Nat.{_+_, _≤_};
+ghost use lib.ListN.{length, getD, drop};
+ghost use Rattle.text.specs.Ascii.{inside, small, begins, toBracket};
+
+// The byte at i, 0 past the end.
+pub fn byte_at(s: &[u8], i: usize) -> u8
+    ensures { λ r. ⌜ r ≡ getD (now (s .entry)) i 0 ⌝ }
+{
+    if i < s.len() {
+        return s[i];
+    }
+    0
+}
+
+pub fn is_inside(lo: u8, hi: u8, b: u8) -> bool
+    ensures { λ r. ⌜ r ≡ inside lo hi b ⌝ }
+{
+    if b < lo {
+        return false;
+    }
+    b <= hi
+}
+
+// An ASCII letter in small, any other byte as it is.
+pub fn small_of(b: u8) -> u8
+    ensures { λ r. ⌜ r ≡ small b ⌝ }
+{
+    if is_inside(b'A', b'Z', b) {
+        return b + 32;
+    }
+    b
+}
+
+// Whether the text from a place on begins with a word (in small letters), ASCII letters in either case.
+pub fn begins_at(s: &[u8], at: PostAt, word: &[u8]) -> bool
+    requires { ⌜ at .0 ≤ length (now s) ⌝ }
+    ensures { λ r. ⌜ r ≡ begins (now (word .entry)) (drop (at .0) (now (s .entry))) ⌝ }
+{
+    let i = at.0;
+    let mut k: usize = 0;
+    while k < word.len() {
+        if s.len() - i <= k {
+            return false;
+        }
+        let b = small_of(s[i + k]);
+        if b != word[k] {
+            return false;
+        }
+        k += 1;
+    }
+    true
+}
+
+// The place of the first `]` from a place on, or the end.
+pub fn next_bracket(s: &[u8], at: PostAt) -> PostAt
+    requires { ⌜ at .0 ≤ length (now s) ⌝ }
+    ensures { λ r. ⌜ r .0 ≡ at .0 + toBracket (drop (at .0) (now (s .entry))) ⌝ }
+{
+    let mut i = at.0;
+    while i < s.len() {
+        if s[i] == b']' {
+            return PostAt(i);
+        }
+        i += 1;
+    }
+    PostAt(i)
+}

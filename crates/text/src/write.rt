@@ -1,0 +1,130 @@
+// Writing cells into a lent pair of slices, one behind the other. A place past the end says that the text did not fit; it stays there.
+use crate::PostAt;
+use crate::TextAt;
+use crate::blank::place_at;
+use crate::zero::zero8;
+use crate::zero::zero32;
+ghost use mathlib.Core.Path.{_≡_};
+ghost use mathlib.Core.List.{[], _∷_, map};
+ghost use Prim.Native.Nat.{_/_, _≤_};
+ghost use lib.ListN.{length, take};
+ghost use Rattle.text.specs.Cells.{cell, cells, part, written, feed, sign};
+ghost use Rattle.text.specs.Decimal.{decimal};
+ghost use Rattle.text.specs.Writes.{Appends, padded, LaidOut};
+
+// The place past every slice's end.
+const FULL: usize = 0xffff_ffff_ffff_ffff;
+
+// Appends one cell.
+pub fn put(buf: &mut [u8], nums: &mut [u32], at: TextAt, b: u8, x: u32) -> TextAt
+    ensures { λ r. ⌜ Appends (cells (now (buf .entry)) (now (nums .entry))) (at .0) (cells (now (buf .exit)) (now (nums .exit))) (r .0) (cell b x ∷ []) ⌝ }
+{
+    let i = at.0;
+    if i < buf.len() {
+        if i < nums.len() {
+            buf[i] = b;
+            nums[i] = x;
+            return TextAt(i + 1);
+        }
+    }
+    TextAt(FULL)
+}
+
+// Appends a line feed that a rule writes.
+pub fn put_feed(buf: &mut [u8], nums: &mut [u32], at: TextAt) -> TextAt
+    ensures { λ r. ⌜ Appends (cells (now (buf .entry)) (now (nums .entry))) (at .0) (cells (now (buf .exit)) (now (nums .exit))) (r .0) (feed ∷ []) ⌝ }
+{
+    put(buf, nums, at, b'\n', 1)
+}
+
+// Appends a byte that a rule writes and that is not blank.
+pub fn put_sign(buf: &mut [u8], nums: &mut [u32], at: TextAt, b: u8) -> TextAt
+    ensures { λ r. ⌜ Appends (cells (now (buf .entry)) (now (nums .entry))) (at .0) (cells (now (buf .exit)) (now (nums .exit))) (r .0) (sign b ∷ []) ⌝ }
+{
+    put(buf, nums, at, b, 0)
+}
+
+// Appends the cells of a source from a up to e.
+pub fn copy(
+    src: &[u8],
+    from: &[u32],
+    a: PostAt,
+    e: PostAt,
+    buf: &mut [u8],
+    nums: &mut [u32],
+    at: TextAt,
+) -> TextAt
+    requires { ⌜ (a .0 ≤ e .0) × ((e .0 ≤ length (now src)) × (e .0 ≤ length (now from))) ⌝ }
+    ensures { λ r. ⌜ Appends (cells (now (buf .entry)) (now (nums .entry))) (at .0) (cells (now (buf .exit)) (now (nums .exit))) (r .0) (part (a .0) (e .0) (cells (now (src .entry)) (now (from .entry)))) ⌝ }
+{
+    let end = e.0;
+    let mut i = a.0;
+    let mut to = at;
+    while i < end {
+        to = put(buf, nums, to, src[i], from[i]);
+        i += 1;
+    }
+    to
+}
+
+// Appends a text that a rule writes.
+pub fn put_text(src: &[u8], buf: &mut [u8], nums: &mut [u32], at: TextAt) -> TextAt
+    ensures { λ r. ⌜ Appends (cells (now (buf .entry)) (now (nums .entry))) (at .0) (cells (now (buf .exit)) (now (nums .exit))) (r .0) (written (now (src .entry))) ⌝ }
+{
+    let mut more: usize = 0;
+    let mut i: usize = 0;
+    let mut to = at;
+    while i < src.len() {
+        let p = place_at(src, i, more);
+        to = put(buf, nums, to, src[i], p.blank);
+        more = p.more;
+        i += 1;
+    }
+    to
+}
+
+// Appends a number in decimal.
+pub fn put_decimal(n: u32, buf: &mut [u8], nums: &mut [u32], at: TextAt) -> TextAt
+    ensures { λ r. ⌜ Appends (cells (now (buf .entry)) (now (nums .entry))) (at .0) (cells (now (buf .exit)) (now (nums .exit))) (r .0) (map sign (decimal n)) ⌝ }
+{
+    if n < 10 {
+        return put_sign(buf, nums, at, (48 + n) as u8);
+    }
+    let front = put_decimal(n / 10, buf, nums, at);
+    put_sign(buf, nums, front, (48 + n % 10) as u8)
+}
+
+// Lays out the first n bytes of a source, with zeros behind them.
+fn lay_bytes(src: &[u8], n: usize, out: &mut [u8])
+    requires { ⌜ (n ≤ length (now src)) × (n ≤ length (now out)) ⌝ }
+    ensures { λ _. ⌜ now (out .exit) ≡ padded (length (now (out .entry))) (take n (now (src .entry))) ⌝ }
+{
+    let mut i: usize = 0;
+    while i < n {
+        out[i] = src[i];
+        i += 1;
+    }
+    zero8(out, n);
+}
+
+// Lays out the origins of the first n numbers of a source, with zeros behind them.
+fn lay_origins(from: &[u32], n: usize, plain: &mut [u32])
+    requires { ⌜ (n ≤ length (now from)) × (n ≤ length (now plain)) ⌝ }
+    ensures { λ _. ⌜ now (plain .exit) ≡ padded (length (now (plain .entry))) (map (λ x. x / 2) (take n (now (from .entry)))) ⌝ }
+{
+    let mut i: usize = 0;
+    while i < n {
+        plain[i] = from[i] / 2;
+        i += 1;
+    }
+    zero32(plain, n);
+}
+
+// Lays out the first n cells of a source as text and origins, with zeros behind them.
+pub fn lay_out(src: &[u8], from: &[u32], n: usize, out: &mut [u8], plain: &mut [u32])
+    requires { ⌜ (n ≤ length (now src)) × ((n ≤ length (now from)) × ((n ≤ length (now out)) × (n ≤ length (now plain)))) ⌝ }
+    ensures { λ _. ⌜ LaidOut (take n (cells (now (src .entry)) (now (from .entry)))) (length (now (out .entry))) (length (now (plain .entry))) (now (out .exit)) (now (plain .exit)) ⌝ }
+{
+    lay_bytes(src, n, out);
+    lay_origins(from, n, plain);
+}

@@ -1,0 +1,24 @@
+// Clearing the unused part of a lent slice.
+ghost use mathlib.Core.Path.{_≡_};
+ghost use Rattle.text.specs.Writes.{cleared};
+
+// Everything from `from` on is 0, the rest unchanged.
+pub fn zero8(out: &mut [u8], from: usize)
+    ensures { λ _. ⌜ now (out .exit) ≡ cleared from (now (out .entry)) ⌝ }
+{
+    let mut i = from;
+    while i < out.len() {
+        out[i] = 0;
+        i += 1;
+    }
+}
+
+pub fn zero32(out: &mut [u32], from: usize)
+    ensures { λ _. ⌜ now (out .exit) ≡ cleared from (now (out .entry)) ⌝ }
+{
+    let mut i = from;
+    while i < out.len() {
+        out[i] = 0;
+        i += 1;
+    }
+}
