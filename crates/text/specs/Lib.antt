@@ -8,3 +8,4 @@ pub mod Writes
 pub mod Split
 pub mod Origins
 pub mod Lent
+pub mod Examples

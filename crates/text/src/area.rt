@@ -5,6 +5,7 @@ use crate::TextAt;
 ghost use mathlib.Core.Path.{_≡_};
 ghost use mathlib.Core.List.{[], _∷_};
 ghost use Prim.Native.Nat.{_≤_};
+ghost use lib.Dec.{ltb};
 ghost use lib.ListN.{length};
 ghost use Rattle.text.specs.Cells.{cell, cells, part};
 ghost use Rattle.text.specs.Writes.{AppendsIn};
@@ -12,13 +13,20 @@ ghost use Rattle.text.specs.Writes.{AppendsIn};
 // The place past every slice's end.
 const FULL: usize = 0xffff_ffff_ffff_ffff;
 
+// Whether a cell fits at a place.
+fn has_room(at: usize, end: usize) -> bool
+    ensures { λ r. ⌜ r ≡ ltb at end ⌝ }
+{
+    at < end
+}
+
 // Appends one cell.
 pub fn put_in(buf: &mut [u8], nums: &mut [u32], end: usize, at: TextAt, b: u8, x: u32) -> TextAt
     requires { ⌜ (end ≤ length (now buf)) × (end ≤ length (now nums)) ⌝ }
     ensures { λ r. ⌜ AppendsIn (now (buf .entry)) (now (nums .entry)) end (at .0) (now (buf .exit)) (now (nums .exit)) (r .0) (cell b x ∷ []) ⌝ }
 {
     let i = at.0;
-    if i < end {
+    if has_room(i, end) {
         buf[i] = b;
         nums[i] = x;
         return TextAt(i + 1);
