@@ -1,0 +1,22 @@
+use borrow.Author.Needs.{needs}
+use native.Mathlib.Omega.{arith}
+use mathlib.Core.Path.{_≡_, refl, sym, ap, _∙_}
+use Prim.Native.Nat.{ℕ, suc, _+_, _-_, _≤_, _<_}
+use mathlib.Core.List.{List, [], _∷_, _++_}
+use lib.ListN.{length, getD}
+use Rattle.text.proofs.Decide.{decide}
+use Rattle.listing.proofs.is_copied.Statement.{statement}
+use Rattle.listing.proofs.is_copied.Tie as tie
+use Rattle.listing.proofs.is_copied.Reads as reads
+use Rattle.listing.proofs.is_copied.Lts as lts
+
+-- src/lib.rt:59:9
+returns : tie.Need-returns
+returns c = sym (search decide)
+
+-- src/lib.rt:55:1
+returns-2 : tie.Need-returns-2
+returns-2 c = sym (search decide)
+
+pub is-copied-spec : {M : Type 1} → statement M
+is-copied-spec = tie.close (tie.spec returns returns-2)
