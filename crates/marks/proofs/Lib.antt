@@ -1,0 +1,4 @@
+pub mod SplitMarks
+pub mod Depth
+pub mod Table
+pub mod Classes

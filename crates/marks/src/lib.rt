@@ -1,0 +1,2 @@
+// Tags to marks: the marks pass.
+pub mod class;
