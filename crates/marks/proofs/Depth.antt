@@ -25,7 +25,7 @@ count-le : (m : Kinds) → count m ≤ 4
 unfolding count
 count-le (kinds b i u s) = omega (arith, bit-le b, bit-le i, bit-le u, bit-le s)
 
-count-add : (k : Kind) (m : Kinds) → has k m ≡ false → count (add k m) ≡ suc (count m)
+pub count-add : (k : Kind) (m : Kinds) → has k m ≡ false → count (add k m) ≡ suc (count m)
 unfolding count has add
 count-add bold (kinds b i u s) e = omega (arith, ap bit e)
 count-add italic (kinds b i u s) e = omega (arith, ap bit e)
@@ -41,7 +41,7 @@ add-has strike (kinds b i u s) e = rw e
 
 -- ---- No mark inside one of its own kind is left by `merge`
 
-abbrev Fresh : Kinds → Items → Type 0
+abbrev pub Fresh : Kinds → Items → Type 0
 Fresh m end = Unit {0}
 Fresh m (text p t) = Fresh m t
 Fresh m (gone s t) = Fresh m t
@@ -58,7 +58,7 @@ fresh-join : (b : Bool) (m : Kinds) (k : Kind) (s : List Cell) (a t : Items) →
 fresh-join true m k s a t e f g = fresh-⧺ m a t (rw (add-has k m e) at f) g
 fresh-join false m k s a t e f g = (e, f, g)
 
-fresh-merge : (m : Kinds) (t : Items) → Fresh m (merge m t)
+pub fresh-merge : (m : Kinds) (t : Items) → Fresh m (merge m t)
 unfolding merge
 fresh-merge m end = tt
 fresh-merge m (text p t) = fresh-merge m t

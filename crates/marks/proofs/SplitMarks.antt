@@ -10,7 +10,7 @@ use Rattle.text.specs.Ascii.{is, isEmpty}
 use Rattle.text.specs.Cells.{Cell, bytes, sign}
 use Rattle.text.specs.Split.{Split, done, copied, consumed, lost, wrote}
 use Rattle.text.proofs.SplitLaws.{append, keeps-all, takes-all}
-use Rattle.marks.specs.Marks.{Kind, Tag, Tokens, last, cut, onto, token, more, tagAt, scan, Items, end, text, gone, mark, Slots, open-end, closed, front, opener, closer, opened, put, after, ends, parse, _⧺_, whole, items, Kinds, no-kinds, has, add, merge, Written, delimiter, content, next, Next, lastOr, firstOr, escapeLast, State, start, textStep, braced, wrap, markStep, write, marks, taken, takenMarks, absent, nextByte, backslash, opening, closing, touching}
+use Rattle.marks.specs.Marks.{Kind, Tag, Tokens, last, cut, onto, token, more, tagAt, scan, Items, end, text, gone, mark, Slots, open-end, closed, front, opener, closer, opened, put, after, ends, parse, _⧺_, whole, items, Kinds, no-kinds, has, add, merge, Written, delimiter, content, next, Next, lastOr, firstOr, escapeLast, State, start, textStep, pieceText, marked, braced, wrap, markStep, write, marks, taken, takenMarks, absent, nextByte, backslash, opening, closing, touching}
 use Rattle.marks.specs.Marks as M
 
 pub or-false-left : (a b : Bool) → (a || b) ≡ false → a ≡ false
@@ -165,9 +165,9 @@ split-wrap k b w {t} {i} s =
     split-opening b (delimiter k) (rw (← append-nil t, ← append-nil i) (append (split-escape (is "{") true s) (split-closing b (delimiter k))))
 
 split-text : (p : List Cell) (n : Next) (st : State) → Split (textStep p n st .wrote .cells) [] p
-unfolding textStep
+unfolding textStep pieceText
 split-text [] n st = done
-split-text (c ∷ p) n st = split-backslash (st .guarded && is "}" (c .byte)) (split-escape (touching n) true (keeps-all (c ∷ p)))
+split-text (c ∷ p) n st = split-backslash (st .guarded && is "}" (c .byte)) (split-escape (touching (marked n)) true (keeps-all (c ∷ p)))
 
 -- A slot without content is nothing but tags that are taken.
 no-content : (t : Items) → content t ≡ false → taken t ≡ spell t

@@ -312,15 +312,19 @@ pub record Step : Type 0 where
   pub wrote : Written
   pub state : State
 
--- A text piece. An empty one is skipped. If a mark comes next and the piece ends in one of `* / _ ~ =`, that is escaped.
-abbrev pub touching : Next → ℕ → Bool
-touching n a = marked n && (is "*" a || is "/" a || is "_" a || is "~" a || is "=" a)
+-- A text piece as it is written: if a mark comes next (`touches`) and the piece ends in one of `* / _ ~ =`, that is escaped.
+abbrev pub touching : (touches : Bool) → ℕ → Bool
+touching m a = m && (is "*" a || is "/" a || is "_" a || is "~" a || is "=" a)
 
+unfoldable pub pieceText : (guarded touches : Bool) → List Cell → List Cell
+pieceText g m p = backslash (g && is "}" (firstOr absent p)) ++ escapeLast (touching m) true p
+
+-- An empty piece is skipped.
 unfoldable pub textStep : List Cell → Next → State → Step
 textStep [] n st = record { wrote = plain []; state = st }
 textStep (c ∷ p) n st =
     record {
-      wrote = plain (backslash (st .guarded && is "}" (c .byte)) ++ escapeLast (touching n) true (c ∷ p));
+      wrote = plain (pieceText (st .guarded) (marked n) (c ∷ p));
       state = record { before = lastOr absent (c ∷ p); guarded = false };
     }
 
@@ -384,5 +388,5 @@ spanNumbers (s ∷ l) = s .from ∷ s .to ∷ spanNumbers l
 
 -- all of this module, for `unfolding` where a closed text is to be computed
 unfoldable pub computes : Unit {0}
-unfolding kindOf tagOfBytes tagAt scan after ends parse _⧺_ whole items has add merge class lastOr content next escapeLast textStep braced wrap markStep write marks taken takenMarks spanNumbers
+unfolding kindOf tagOfBytes tagAt scan after ends parse _⧺_ whole items has add merge class lastOr content next escapeLast pieceText textStep braced wrap markStep write marks taken takenMarks spanNumbers
 computes = tt

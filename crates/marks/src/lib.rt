@@ -1,2 +1,4 @@
 // Tags to marks: the marks pass.
 pub mod class;
+pub mod piece;
+pub mod tags;
