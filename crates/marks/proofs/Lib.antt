@@ -5,3 +5,7 @@ pub mod Classes
 pub mod Flattening
 pub mod Pieces
 pub mod TagNumbers
+pub mod Scanning
+pub mod Tabling
+pub mod Stack
+pub mod TagReading

@@ -38,7 +38,7 @@ unfolding escapeLast evenRun
 escape-last f even [] c = refl
 escape-last f even (d ∷ p) c = rw (not-empty p c) (ap (λ (l : List Cell). d ∷ l) (escape-last f (not (eqb (d .byte) 92 && even)) p c))
 
-bytes-drop : (a : ℕ) (l : List Cell) → bytes (drop a l) ≡ drop a (bytes l)
+pub bytes-drop : (a : ℕ) (l : List Cell) → bytes (drop a l) ≡ drop a (bytes l)
 bytes-drop zero l = refl
 bytes-drop (suc a) [] = refl
 bytes-drop (suc a) (c ∷ l) = bytes-drop a l

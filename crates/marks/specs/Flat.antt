@@ -10,6 +10,8 @@
 --   flatAt x ns n j    the item number j in the lent numbers ns, for a text of n cells: the bounds of its cells from place n on, its code
 --                      from place 2n + 2 on
 --   flats f k j        k items from number j on
+--   Tagged ..          the tokens of a text are held as k items
+--   Recodes g ..       k items have become others by g
 --   slotsAt f k j      the slots from item j on, where there are k items
 --   evenRun e s        an even number of backslashes stands at the end of s (e: of what stands before s)
 --   Inserts ..         a cell has been put before the cells from place p on
@@ -17,12 +19,12 @@
 use mathlib.Core.List.{List, [], _∷_, _++_}
 use mathlib.Core.Bool.{Bool, true, false, not, _&&_, cond}
 use mathlib.Core.Path.{_≡_}
-use Prim.Native.Nat.{ℕ, zero, suc, _+_, _-_, _*_, _%_, _≤_}
+use Prim.Native.Nat.{ℕ, zero, suc, _+_, _-_, _*_, _%_, _≤_, _<_}
 use Rattle.text.specs.Writes.{Holds}
 use lib.Dec.{eqb, ltb}
-use lib.ListN.{length, take, getD}
+use lib.ListN.{length, take, getD, set}
 use mathlib.Core.Option.{Option, none, some}
-use Rattle.text.specs.Cells.{Cell, part}
+use Rattle.text.specs.Cells.{Cell, bytes, part}
 use Rattle.marks.specs.Marks.{Kind, bold, italic, underline, strike, Tag, opener, closer, Tokens, last, cut, scan, Items, end, text, mark, Slots, open-end, closed, front, after, ends, Kinds, kinds, no-kinds, has, add, Next, nothing, a-byte, a-mark}
 
 pub data Flat : Type 0 where
@@ -137,6 +139,17 @@ tagNumber none = 0
 tagNumber (some (opener k)) = 8 + kindNumber k
 tagNumber (some (closer k)) = 12 + kindNumber k
 
+-- the tag of a number other than 0
+unfoldable pub numberedTag : ℕ → Tag
+numberedTag r = cond (ltb r 12) (opener (kindNumbered (r % 4))) (closer (kindNumbered (r % 4)))
+
+-- the code of a tag's item, and how many bytes the tag has
+unfoldable pub codeOf : (r : ℕ) → (ends : Bool) → ℕ
+codeOf r e = cond (ltb r 12) r (cond e 2 1)
+
+unfoldable pub widthOf : ℕ → ℕ
+widthOf r = cond (ltb r 12) 3 4
+
 unfoldable pub flatOf : (code : ℕ) → List Cell → Flat
 flatOf code s =
     cond (eqb code 0) (piece s)
@@ -160,6 +173,37 @@ flats f (suc k) j = f j ∷ flats f k (j + 1)
 
 unfoldable pub slotsAt : (ℕ → Flat) → (k j : ℕ) → Slots
 slotsAt f k j = view (flats f (k - j) j)
+
+-- the kinds open, innermost first, of which code holds the numbers from place 3n + 3 on
+unfoldable pub stackOf : (ns : List ℕ) → (n depth : ℕ) → List Kind
+stackOf ns n zero = []
+stackOf ns n (suc depth) = kindNumbered (getD ns (3 * n + 3 + depth) 0 % 4) ∷ stackOf ns n depth
+
+-- the stack after the tag r, and nothing else changed
+pub record Stacked (ns ns' : List ℕ) (n depth r depth' : ℕ) : Type 0 where
+  pub is : stackOf ns' n depth' ≡ after (numberedTag r) (stackOf ns n depth)
+  pub items : take (3 * n + 3) ns' ≡ take (3 * n + 3) ns
+  pub deep : depth' ≤ depth + 1
+
+-- the numbers with item j, which ends at e
+unfoldable pub withItem : (ns : List ℕ) → (n j e code : ℕ) → List ℕ
+withItem ns n j e code = set (set ns (n + j + 1) e) (2 * n + 2 + j) code
+
+-- the bounds of k items rise and lie within the text
+unfoldable pub Bounded : (ns : List ℕ) → (n k : ℕ) → Type 0
+Bounded ns n k = (j : ℕ) → j < k → (boundAt ns n j ≤ boundAt ns n (j + 1)) × (boundAt ns n (j + 1) ≤ n)
+
+-- the tokens of a text of n bytes are held as k items
+pub record Tagged (text ns ns' : List ℕ) (k : ℕ) : Type 0 where
+  pub items : (x : List Cell) → bytes x ≡ text → flats (flatAt x ns' (length text)) k 0 ≡ raws (scan 0 x) []
+  pub bounded : Bounded ns' (length text) k
+  pub few : k ≤ length text + 1
+  pub source : take (length text) ns' ≡ take (length text) ns
+
+-- k items have become others by g, of the same cells
+pub record Recodes (g : List Flat → List Flat) (n k : ℕ) (ns ns' : List ℕ) : Type 0 where
+  pub items : (x : List Cell) → flats (flatAt x ns' n) k 0 ≡ g (flats (flatAt x ns n) k 0)
+  pub source : take (2 * n + 2) ns' ≡ take (2 * n + 2) ns
 
 -- What code holds of `Next`: 256 for nothing, 257 for a mark.
 abbrev pub nextNumber : Next → ℕ

@@ -1,4 +1,5 @@
 // Tags to marks: the marks pass.
 pub mod class;
+pub mod items;
 pub mod piece;
 pub mod tags;

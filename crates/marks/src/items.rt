@@ -1,0 +1,87 @@
+// The items of a text in the lent numbers: for a text of n bytes the bounds of item j's bytes at n + j and n + j + 1, its code at 2n + 2 + j,
+// and from 3n + 3 on a stack. Codes: 0 text, 1 a tag that vanishes, 2 the end of a mark's slot, 4 to 7 the start of a mark (by kind),
+// 8 to 11 an opener of which it is not known yet whether it is closed.
+use crate::tags::tag_at;
+ghost use mathlib.Core.Path.{_≡_};
+ghost use Prim.Native.Nat.{_+_, _*_, _≤_, _<_};
+ghost use lib.ListN.{length};
+ghost use Rattle.marks.specs.Marks.{ends};
+ghost use Rattle.marks.specs.Flat.{numberedTag, codeOf, widthOf, stackOf, withItem, Stacked, Tagged};
+
+// Item j, which ends at `end`.
+fn put_item(nums: &mut [u32], n: usize, j: usize, end: usize, code: u32)
+    requires { ⌜ ((j ≤ n) × (end ≤ n)) × ((n ≤ 262144) × (4 * n + 4 ≤ length (now nums))) ⌝ }
+    ensures { λ _. ⌜ now (nums .exit) ≡ withItem (now (nums .entry)) n j end code ⌝ }
+{
+    nums[n + j + 1] = end as u32;
+    nums[2 * n + 2 + j] = code;
+}
+
+// The code of a tag's item: a closer ends the innermost of the open marks if the kinds are equal, else it only vanishes.
+fn code_of(nums: &[u32], n: usize, depth: usize, tag: u32) -> u32
+    requires { ⌜ (depth ≤ n + 1) × ((n ≤ 262144) × (4 * n + 4 ≤ length (now nums))) ⌝ }
+    ensures { λ r. ⌜ r ≡ codeOf tag (ends (numberedTag tag) (stackOf (now (nums .entry)) n depth)) ⌝ }
+{
+    if tag < 12 {
+        return tag;
+    }
+    if depth == 0 {
+        return 1;
+    }
+    if nums[3 * n + 3 + (depth - 1)] % 4 == tag % 4 {
+        return 2;
+    }
+    1
+}
+
+fn width_of(tag: u32) -> usize
+    ensures { λ r. ⌜ r ≡ widthOf tag ⌝ }
+{
+    if tag < 12 {
+        return 3;
+    }
+    4
+}
+
+// The stack of open kinds after a tag with its item's code.
+fn stack_after(nums: &mut [u32], n: usize, depth: usize, tag: u32, code: u32) -> usize
+    requires { ⌜ ((depth ≤ n) × (code ≡ codeOf tag (ends (numberedTag tag) (stackOf (now nums) n depth)))) × ((n ≤ 262144) × (4 * n + 4 ≤ length (now nums))) ⌝ }
+    ensures { λ r. ⌜ Stacked (now (nums .entry)) (now (nums .exit)) n depth tag r ⌝ }
+{
+    if tag < 12 {
+        nums[3 * n + 3 + depth] = tag;
+        return depth + 1;
+    }
+    if code == 2 {
+        return depth - 1;
+    }
+    depth
+}
+
+// Reads the tags of a text. The number of items.
+pub fn read_tags(text: &[u8], nums: &mut [u32]) -> usize
+    requires { ⌜ (length (now text) ≤ 262144) × (4 * length (now text) + 4 ≤ length (now nums)) ⌝ }
+    ensures { λ r. ⌜ Tagged (now (text .entry)) (now (nums .entry)) (now (nums .exit)) r ⌝ }
+{
+    let n = text.len();
+    nums[n] = 0;
+    let mut i: usize = 0;
+    let mut j: usize = 0;
+    let mut depth: usize = 0;
+    while i < n {
+        let tag = tag_at(text, i);
+        if tag == 0 {
+            i += 1;
+        } else {
+            let code = code_of(&nums[..], n, depth, tag);
+            let w = width_of(tag);
+            put_item(nums, n, j, i, 0);
+            put_item(nums, n, j + 1, i + w, code);
+            depth = stack_after(nums, n, depth, tag, code);
+            j += 2;
+            i += w;
+        }
+    }
+    put_item(nums, n, j, n, 0);
+    j + 1
+}
