@@ -9,3 +9,4 @@ pub mod Scanning
 pub mod Tabling
 pub mod Stack
 pub mod TagReading
+pub mod Settling

@@ -205,6 +205,12 @@ pub record Recodes (g : List Flat → List Flat) (n k : ℕ) (ns ns' : List ℕ)
   pub items : (x : List Cell) → flats (flatAt x ns' n) k 0 ≡ g (flats (flatAt x ns n) k 0)
   pub source : take (2 * n + 2) ns' ≡ take (2 * n + 2) ns
 
+-- item j settled, before items of which `closes` end slots that begin before them; nothing else changed
+pub record SettledItem (ns ns' : List ℕ) (n j closes closes' : ℕ) : Type 0 where
+  pub is : (x : List Cell) (f : List Flat) → settle (flatAt x ns n j) (record { flat = f; closes = closes }) ≡ record { flat = flatAt x ns' n j ∷ f; closes = closes' }
+  pub others : (i : ℕ) → (i ≡ 2 * n + 2 + j → ⊥) → getD ns' i 0 ≡ getD ns i 0
+  pub few : closes' ≤ closes + 1
+
 -- What code holds of `Next`: 256 for nothing, 257 for a mark.
 abbrev pub nextNumber : Next → ℕ
 nextNumber nothing = 256

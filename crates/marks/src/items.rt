@@ -6,7 +6,7 @@ ghost use mathlib.Core.Path.{_≡_};
 ghost use Prim.Native.Nat.{_+_, _*_, _≤_, _<_};
 ghost use lib.ListN.{length};
 ghost use Rattle.marks.specs.Marks.{ends};
-ghost use Rattle.marks.specs.Flat.{numberedTag, codeOf, widthOf, stackOf, withItem, Stacked, Tagged};
+ghost use Rattle.marks.specs.Flat.{numberedTag, codeOf, widthOf, stackOf, withItem, Stacked, Tagged, settled, SettledItem, Recodes};
 
 // Item j, which ends at `end`.
 fn put_item(nums: &mut [u32], n: usize, j: usize, end: usize, code: u32)
@@ -84,4 +84,37 @@ pub fn read_tags(text: &[u8], nums: &mut [u32]) -> usize
     }
     put_item(nums, n, j, n, 0);
     j + 1
+}
+
+// Settles item j: an opener is text if no mark that is closed behind it begins there.
+fn settle_item(nums: &mut [u32], n: usize, j: usize, closes: usize) -> usize
+    requires { ⌜ ((j ≤ n) × (closes ≤ n + 1)) × ((n ≤ 262144) × (4 * n + 4 ≤ length (now nums))) ⌝ }
+    ensures { λ r. ⌜ SettledItem (now (nums .entry)) (now (nums .exit)) n j closes r ⌝ }
+{
+    let code = nums[2 * n + 2 + j];
+    if code == 2 {
+        return closes + 1;
+    }
+    if code < 8 {
+        return closes;
+    }
+    if closes == 0 {
+        nums[2 * n + 2 + j] = 0;
+        return 0;
+    }
+    nums[2 * n + 2 + j] = code % 4 + 4;
+    closes - 1
+}
+
+// Settles k items, from the right.
+pub fn settle(nums: &mut [u32], n: usize, k: usize)
+    requires { ⌜ (k ≤ n + 1) × ((n ≤ 262144) × (4 * n + 4 ≤ length (now nums))) ⌝ }
+    ensures { λ _. ⌜ Recodes (λ f. settled f .flat) n k (now (nums .entry)) (now (nums .exit)) ⌝ }
+{
+    let mut closes: usize = 0;
+    let mut j = k;
+    while 0 < j {
+        closes = settle_item(nums, n, j - 1, closes);
+        j -= 1;
+    }
 }
