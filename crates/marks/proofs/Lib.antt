@@ -10,3 +10,5 @@ pub mod Tabling
 pub mod Stack
 pub mod TagReading
 pub mod Settling
+pub mod Masks
+pub mod Merging

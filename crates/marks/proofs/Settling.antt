@@ -39,7 +39,7 @@ unfolding flatAt codeAt boundAt
 recoded x ns n j code h k =
     rw (getD-set-same ns (2 * n + 2 + j) code 0 k, getD-set-other ns (2 * n + 2 + j) (n + j) code 0 (λ z. omega arith), getD-set-other ns (2 * n + 2 + j) (n + (j + 1)) code 0 (λ z. omega arith))
 
-flat-code : (x : List Cell) (ns : List ℕ) (n j : ℕ) → flatAt x ns n j ≡ flatOf (getD ns (2 * n + 2 + j) 0) (part (boundAt ns n j) (boundAt ns n (j + 1)) x)
+pub flat-code : (x : List Cell) (ns : List ℕ) (n j : ℕ) → flatAt x ns n j ≡ flatOf (getD ns (2 * n + 2 + j) 0) (part (boundAt ns n j) (boundAt ns n (j + 1)) x)
 unfolding flatAt codeAt
 flat-code x ns n j = refl
 
@@ -117,7 +117,7 @@ pub settling-start : (ns : List ℕ) (n k : ℕ) → Settling ns ns n k k 0
 unfolding flats settled
 settling-start ns n k = let z : k - k ≡ 0 = omega arith in record { up-to = omega arith; few = omega arith; behind = λ x. rw z; before = λ i h. refl }
 
-flatAt-by : (x : List Cell) (ns ns' : List ℕ) (n j : ℕ) → getD ns' (2 * n + 2 + j) 0 ≡ getD ns (2 * n + 2 + j) 0 → getD ns' (n + j) 0 ≡ getD ns (n + j) 0 → getD ns' (n + (j + 1)) 0 ≡ getD ns (n + (j + 1)) 0 → flatAt x ns' n j ≡ flatAt x ns n j
+pub flatAt-by : (x : List Cell) (ns ns' : List ℕ) (n j : ℕ) → getD ns' (2 * n + 2 + j) 0 ≡ getD ns (2 * n + 2 + j) 0 → getD ns' (n + j) 0 ≡ getD ns (n + j) 0 → getD ns' (n + (j + 1)) 0 ≡ getD ns (n + (j + 1)) 0 → flatAt x ns' n j ≡ flatAt x ns n j
 unfolding flatAt codeAt boundAt
 flatAt-by x ns ns' n j a b e = rw (a, b, e)
 

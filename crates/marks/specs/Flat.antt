@@ -19,9 +19,9 @@
 use mathlib.Core.List.{List, [], _∷_, _++_}
 use mathlib.Core.Bool.{Bool, true, false, not, _&&_, cond}
 use mathlib.Core.Path.{_≡_}
-use Prim.Native.Nat.{ℕ, zero, suc, _+_, _-_, _*_, _%_, _≤_, _<_}
+use Prim.Native.Nat.{ℕ, zero, suc, _+_, _-_, _*_, _/_, _%_, _≤_, _<_}
 use Rattle.text.specs.Writes.{Holds}
-use lib.Dec.{eqb, ltb}
+use lib.Dec.{eqb, leb, ltb}
 use lib.ListN.{length, take, getD, set}
 use mathlib.Core.Option.{Option, none, some}
 use Rattle.text.specs.Cells.{Cell, bytes, part}
@@ -158,6 +158,13 @@ flatOf code s =
     (cond (ltb code 8) (enter (kindNumbered (code % 4)) s)
     (begun (kindNumbered (code % 4)) s))))
 
+-- kinds as a mask, one bit for each
+unfoldable pub bitOf : ℕ → ℕ
+bitOf k = cond (eqb k 0) 1 (cond (eqb k 1) 2 (cond (eqb k 2) 4 8))
+
+unfoldable pub kindsOf : ℕ → Kinds
+kindsOf m = kinds (eqb (m % 2) 1) (eqb (m / 2 % 2) 1) (eqb (m / 4 % 2) 1) (eqb (m / 8 % 2) 1)
+
 unfoldable pub codeAt : (ns : List ℕ) → (n j : ℕ) → ℕ
 codeAt ns n j = getD ns (2 * n + 2 + j) 0
 
@@ -204,6 +211,20 @@ pub record Tagged (text ns ns' : List ℕ) (k : ℕ) : Type 0 where
 pub record Recodes (g : List Flat → List Flat) (n k : ℕ) (ns ns' : List ℕ) : Type 0 where
   pub items : (x : List Cell) → flats (flatAt x ns' n) k 0 ≡ g (flats (flatAt x ns n) k 0)
   pub source : take (2 * n + 2) ns' ≡ take (2 * n + 2) ns
+
+-- the kinds outside the open marks, innermost first: a mask, and 16 more where the mark merges
+unfoldable pub outersOf : (ns : List ℕ) → (n depth : ℕ) → List Outer
+outersOf ns n zero = []
+outersOf ns n (suc depth) =
+    record { kinds-outside = kindsOf (getD ns (3 * n + 3 + depth) 0 % 16); merges = leb 16 (getD ns (3 * n + 3 + depth) 0) } ∷ outersOf ns n depth
+
+-- item j merged, where the kinds of a mask are open; no other item changed
+pub record MergedItem (ns ns' : List ℕ) (n j mask depth mask' depth' : ℕ) : Type 0 where
+  pub is : (x : List Cell) (f : List Flat)
+      → merged (flatAt x ns n j ∷ f) (kindsOf mask) (outersOf ns n depth) ≡ flatAt x ns' n j ∷ merged f (kindsOf mask') (outersOf ns' n depth')
+  pub others : (i : ℕ) → (i ≡ 2 * n + 2 + j → ⊥) → i < 3 * n + 3 → getD ns' i 0 ≡ getD ns i 0
+  pub small : mask' < 16
+  pub deep : depth' ≤ depth + 1
 
 -- item j settled, before items of which `closes` end slots that begin before them; nothing else changed
 pub record SettledItem (ns ns' : List ℕ) (n j closes closes' : ℕ) : Type 0 where

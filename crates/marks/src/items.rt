@@ -3,10 +3,11 @@
 // 8 to 11 an opener of which it is not known yet whether it is closed.
 use crate::tags::tag_at;
 ghost use mathlib.Core.Path.{_≡_};
+ghost use mathlib.Core.List.{[]};
 ghost use Prim.Native.Nat.{_+_, _*_, _≤_, _<_};
 ghost use lib.ListN.{length};
-ghost use Rattle.marks.specs.Marks.{ends};
-ghost use Rattle.marks.specs.Flat.{numberedTag, codeOf, widthOf, stackOf, withItem, Stacked, Tagged, settled, SettledItem, Recodes};
+ghost use Rattle.marks.specs.Marks.{ends, no-kinds};
+ghost use Rattle.marks.specs.Flat.{numberedTag, codeOf, widthOf, stackOf, withItem, Stacked, Tagged, settled, SettledItem, merged, MergedItem, bitOf, Recodes};
 
 // Item j, which ends at `end`.
 fn put_item(nums: &mut [u32], n: usize, j: usize, end: usize, code: u32)
@@ -116,5 +117,88 @@ pub fn settle(nums: &mut [u32], n: usize, k: usize)
     while 0 < j {
         closes = settle_item(nums, n, j - 1, closes);
         j -= 1;
+    }
+}
+
+// The kinds open in a slot, as a mask, and how many marks are open, merged ones too.
+pub struct Open {
+    pub mask: u32,
+    pub depth: usize,
+}
+
+// The bit of a kind.
+pub fn bit_of(kind: u32) -> u32
+    ensures { λ r. ⌜ r ≡ bitOf kind ⌝ }
+{
+    if kind == 0 {
+        return 1;
+    }
+    if kind == 1 {
+        return 2;
+    }
+    if kind == 2 {
+        return 4;
+    }
+    8
+}
+
+// Merges item j: a mark inside one of its own kind vanishes.
+fn merge_item(nums: &mut [u32], n: usize, j: usize, state: Open) -> Open
+    requires { ⌜ ((j ≤ n) × ((state .depth ≤ j) × (state .mask < 16))) × ((n ≤ 262144) × (4 * n + 4 ≤ length (now nums))) ⌝ }
+    ensures { λ r. ⌜ MergedItem (now (nums .entry)) (now (nums .exit)) n j (state .mask) (state .depth) (r .mask) (r .depth) ⌝ }
+{
+    let mask = state.mask;
+    let depth = state.depth;
+    let code = nums[2 * n + 2 + j];
+    if code == 2 {
+        if depth == 0 {
+            nums[2 * n + 2 + j] = 1;
+            return state;
+        }
+        let outer = nums[3 * n + 3 + (depth - 1)];
+        if 16 <= outer {
+            nums[2 * n + 2 + j] = 1;
+            return Open {
+                mask: outer % 16,
+                depth: depth - 1,
+            };
+        }
+        return Open {
+            mask: outer % 16,
+            depth: depth - 1,
+        };
+    }
+    if code < 4 {
+        return state;
+    }
+    if 8 <= code {
+        return state;
+    }
+    let bit = bit_of(code % 4);
+    if mask & bit == 0 {
+        nums[3 * n + 3 + depth] = mask;
+        return Open {
+            mask: mask | bit,
+            depth: depth + 1,
+        };
+    }
+    nums[3 * n + 3 + depth] = mask + 16;
+    nums[2 * n + 2 + j] = 1;
+    Open {
+        mask: mask | bit,
+        depth: depth + 1,
+    }
+}
+
+// Merges k items, from the left.
+pub fn merge(nums: &mut [u32], n: usize, k: usize)
+    requires { ⌜ (k ≤ n + 1) × ((n ≤ 262144) × (4 * n + 4 ≤ length (now nums))) ⌝ }
+    ensures { λ _. ⌜ Recodes (λ f. merged f no-kinds []) n k (now (nums .entry)) (now (nums .exit)) ⌝ }
+{
+    let mut state = Open { mask: 0, depth: 0 };
+    let mut j: usize = 0;
+    while j < k {
+        state = merge_item(nums, n, j, state);
+        j += 1;
     }
 }
