@@ -5,6 +5,7 @@ use mathlib.Core.Bool.{Bool, true, false}
 use Prim.Native.Nat.{ℕ, suc, _+_, _≤_, max}
 use native.Mathlib.Omega.{arith}
 use Rattle.text.specs.Cells.{Cell}
+use Rattle.marks.specs.Flat.{Fresh, depthOf}
 use Rattle.marks.specs.Marks.{Kind, bold, italic, underline, strike, Kinds, kinds, no-kinds, has, add, Items, end, text, gone, mark, items, _⧺_, join, merge}
 
 -- ---- Sets of kinds
@@ -41,12 +42,6 @@ add-has strike (kinds b i u s) e = rw e
 
 -- ---- No mark inside one of its own kind is left by `merge`
 
-abbrev pub Fresh : Kinds → Items → Type 0
-Fresh m end = Unit {0}
-Fresh m (text p t) = Fresh m t
-Fresh m (gone s t) = Fresh m t
-Fresh m (mark k s a t) = (has k m ≡ false) × Fresh (add k m) a × Fresh m t
-
 fresh-⧺ : (m : Kinds) (t u : Items) → Fresh m t → Fresh m u → Fresh m (t ⧺ u)
 unfolding _⧺_
 fresh-⧺ m end u f g = g
@@ -66,13 +61,7 @@ fresh-merge m (gone s t) = fresh-merge m t
 fresh-merge m (mark k s a t) =
     fresh-join (has k m) m k s (merge (add k m) a) (merge m t) refl (fresh-merge (add k m) a) (fresh-merge m t)
 
--- The depth of a slot: at most the number of kinds that are not open around it.
-unfoldable pub depthOf : Items → ℕ
-depthOf end = 0
-depthOf (text p t) = depthOf t
-depthOf (gone s t) = depthOf t
-depthOf (mark k s a t) = max (suc (depthOf a)) (depthOf t)
-
+-- The depth of a slot is at most the number of kinds that are not open around it.
 pub fresh-depth : (m : Kinds) (t : Items) → Fresh m t → count m + depthOf t ≤ 4
 unfolding depthOf
 fresh-depth m end f = omega (arith, count-le m)

@@ -12,3 +12,5 @@ pub mod TagReading
 pub mod Settling
 pub mod Masks
 pub mod Merging
+pub mod Slotting
+pub mod Looking

@@ -17,7 +17,7 @@ pub record Fits (m k : ℕ) : Type 0 where
   pub small : bitOr m (bitOf k) < 16
 
 fits-0 : (m : ℕ) → m < 16 → Fits m 0
-unfolding kindNumbered kindsOf bitOf has add bitAnd bitOr
+unfolding kindNumbered kindsOf bitOf has add
 fits-0 zero h = record { is-open = refl; opens = refl; small = omega arith }
 fits-0 (suc zero) h = record { is-open = refl; opens = refl; small = omega arith }
 fits-0 (suc (suc zero)) h = record { is-open = refl; opens = refl; small = omega arith }
@@ -37,7 +37,7 @@ fits-0 (suc (suc (suc (suc (suc (suc (suc (suc (suc (suc (suc (suc (suc (suc (su
 fits-0 (suc (suc (suc (suc (suc (suc (suc (suc (suc (suc (suc (suc (suc (suc (suc (suc m)))))))))))))))) h = absurd (omega arith)
 
 fits-1 : (m : ℕ) → m < 16 → Fits m 1
-unfolding kindNumbered kindsOf bitOf has add bitAnd bitOr
+unfolding kindNumbered kindsOf bitOf has add
 fits-1 zero h = record { is-open = refl; opens = refl; small = omega arith }
 fits-1 (suc zero) h = record { is-open = refl; opens = refl; small = omega arith }
 fits-1 (suc (suc zero)) h = record { is-open = refl; opens = refl; small = omega arith }
@@ -57,7 +57,7 @@ fits-1 (suc (suc (suc (suc (suc (suc (suc (suc (suc (suc (suc (suc (suc (suc (su
 fits-1 (suc (suc (suc (suc (suc (suc (suc (suc (suc (suc (suc (suc (suc (suc (suc (suc m)))))))))))))))) h = absurd (omega arith)
 
 fits-2 : (m : ℕ) → m < 16 → Fits m 2
-unfolding kindNumbered kindsOf bitOf has add bitAnd bitOr
+unfolding kindNumbered kindsOf bitOf has add
 fits-2 zero h = record { is-open = refl; opens = refl; small = omega arith }
 fits-2 (suc zero) h = record { is-open = refl; opens = refl; small = omega arith }
 fits-2 (suc (suc zero)) h = record { is-open = refl; opens = refl; small = omega arith }
@@ -77,7 +77,7 @@ fits-2 (suc (suc (suc (suc (suc (suc (suc (suc (suc (suc (suc (suc (suc (suc (su
 fits-2 (suc (suc (suc (suc (suc (suc (suc (suc (suc (suc (suc (suc (suc (suc (suc (suc m)))))))))))))))) h = absurd (omega arith)
 
 fits-3 : (m : ℕ) → m < 16 → Fits m 3
-unfolding kindNumbered kindsOf bitOf has add bitAnd bitOr
+unfolding kindNumbered kindsOf bitOf has add
 fits-3 zero h = record { is-open = refl; opens = refl; small = omega arith }
 fits-3 (suc zero) h = record { is-open = refl; opens = refl; small = omega arith }
 fits-3 (suc (suc zero)) h = record { is-open = refl; opens = refl; small = omega arith }

@@ -36,7 +36,7 @@ gone-one : (s : List Cell) → flatOf 1 s ≡ vanish s
 unfolding flatOf
 gone-one s = refl
 
-zero-piece : (s : List Cell) → flatOf 0 s ≡ piece s
+pub zero-piece : (s : List Cell) → flatOf 0 s ≡ piece s
 unfolding flatOf
 zero-piece s = refl
 
@@ -72,7 +72,7 @@ outer-plain mask h = let z : mask % 16 ≡ mask = omega arith in rw (z, lt-leb 1
 outer-merges : (mask : ℕ) → mask < 16 → _≡_ {A = Outer} (record { kinds-outside = kindsOf mask; merges = true }) (record { kinds-outside = kindsOf ((mask + 16) % 16); merges = leb 16 (mask + 16) })
 outer-merges mask h = let z : (mask + 16) % 16 ≡ mask = omega arith in rw (z, le-leb 16 (mask + 16) (omega arith))
 
-cons-flats : (f : ℕ → Flat) (k j : ℕ) → j < k → flats f (k - j) j ≡ f j ∷ flats f (k - suc j) (suc j)
+pub cons-flats : (f : ℕ → Flat) (k j : ℕ) → j < k → flats f (k - j) j ≡ f j ∷ flats f (k - suc j) (suc j)
 unfolding flats
 cons-flats f k j h = let z : k - j ≡ suc (k - suc j) = omega arith in rw (z, add-one)
 

@@ -19,13 +19,13 @@
 use mathlib.Core.List.{List, [], _∷_, _++_}
 use mathlib.Core.Bool.{Bool, true, false, not, _&&_, cond}
 use mathlib.Core.Path.{_≡_}
-use Prim.Native.Nat.{ℕ, zero, suc, _+_, _-_, _*_, _/_, _%_, _≤_, _<_}
+use Prim.Native.Nat.{ℕ, zero, suc, _+_, _-_, _*_, _/_, _%_, _≤_, _<_, max}
 use Rattle.text.specs.Writes.{Holds}
 use lib.Dec.{eqb, leb, ltb}
 use lib.ListN.{length, take, getD, set}
 use mathlib.Core.Option.{Option, none, some}
-use Rattle.text.specs.Cells.{Cell, bytes, part}
-use Rattle.marks.specs.Marks.{Kind, bold, italic, underline, strike, Tag, opener, closer, Tokens, last, cut, scan, Items, end, text, mark, Slots, open-end, closed, front, after, ends, Kinds, kinds, no-kinds, has, add, Next, nothing, a-byte, a-mark}
+use Rattle.text.specs.Cells.{Cell, bytes, cells, part}
+use Rattle.marks.specs.Marks.{Kind, bold, italic, underline, strike, Tag, opener, closer, Tokens, last, cut, scan, Items, end, text, gone, mark, Slots, open-end, closed, front, after, ends, Kinds, kinds, no-kinds, has, add, content, Next, nothing, a-byte, a-mark}
 
 pub data Flat : Type 0 where
   piece vanish leave : List Cell → Flat
@@ -52,6 +52,19 @@ within (closed t o) = t
 abbrev pub beyond : Slots → Slots
 beyond (open-end t) = open-end end
 beyond (closed t o) = o
+
+-- No mark inside one of its own kind, where the kinds m are open; and how deep the marks are nested.
+abbrev pub Fresh : Kinds → Items → Type 0
+Fresh m end = Unit {0}
+Fresh m (text p t) = Fresh m t
+Fresh m (gone s t) = Fresh m t
+Fresh m (mark k s a t) = (has k m ≡ false) × Fresh (add k m) a × Fresh m t
+
+unfoldable pub depthOf : Items → ℕ
+depthOf end = 0
+depthOf (text p t) = depthOf t
+depthOf (gone s t) = depthOf t
+depthOf (mark k s a t) = max (suc (depthOf a)) (depthOf t)
 
 -- ---- The tags' fates
 
@@ -231,6 +244,36 @@ pub record SettledItem (ns ns' : List ℕ) (n j closes closes' : ℕ) : Type 0 w
   pub is : (x : List Cell) (f : List Flat) → settle (flatAt x ns n j) (record { flat = f; closes = closes }) ≡ record { flat = flatAt x ns' n j ∷ f; closes = closes' }
   pub others : (i : ℕ) → (i ≡ 2 * n + 2 + j → ⊥) → getD ns' i 0 ≡ getD ns i 0
   pub few : closes' ≤ closes + 1
+
+-- the items that a text and the lent numbers hold
+unfoldable pub held : (src ns : List ℕ) → ℕ → Flat
+held src ns j = flatAt (cells src ns) ns (length src) j
+
+abbrev pub slotAt : (src ns : List ℕ) → (k j : ℕ) → Slots
+slotAt src ns k j = slotsAt (held src ns) k j
+
+pub record Held (src ns : List ℕ) (k : ℕ) : Type 0 where
+  pub small : length src ≤ 262144
+  pub room : 4 * length src + 4 ≤ length ns
+  pub few : k ≤ length src + 1
+  pub bounded : Bounded ns (length src) k
+
+-- what the content test is asked of the slot that starts at item `at`, and what it answers: 0 where the slot has content, else 1 + the item
+-- behind the slot
+pub record Ready (src ns : List ℕ) (k at depth : ℕ) : Type 0 where
+  pub table : Held src ns k
+  pub up-to : at ≤ k
+  pub deep : depthOf (within (slotAt src ns k at)) ≤ depth
+
+pub record Empty (src ns : List ℕ) (k at j : ℕ) : Type 0 where
+  pub none : content (within (slotAt src ns k at)) ≡ false
+  pub forward : at ≤ j
+  pub up-to : j ≤ k
+  pub behind : slotAt src ns k j ≡ beyond (slotAt src ns k at)
+
+pub record Answer (src ns : List ℕ) (k at r : ℕ) : Type 0 where
+  pub some : r ≡ 0 → content (within (slotAt src ns k at)) ≡ true
+  pub empty : (j : ℕ) → r ≡ suc j → Empty src ns k at j
 
 -- What code holds of `Next`: 256 for nothing, 257 for a mark.
 abbrev pub nextNumber : Next → ℕ

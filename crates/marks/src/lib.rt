@@ -2,4 +2,5 @@
 pub mod class;
 pub mod items;
 pub mod piece;
+pub mod slot;
 pub mod tags;
