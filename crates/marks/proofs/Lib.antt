@@ -14,3 +14,4 @@ pub mod Masks
 pub mod Merging
 pub mod Slotting
 pub mod Looking
+pub mod Wrapping

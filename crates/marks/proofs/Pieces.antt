@@ -99,7 +99,7 @@ step v₀ v j end c h k l e m =
       high = part-at v (suc j) (suc end) c (omega arith) (omega arith) ∙ rw (e, same, m .high) (sym (part-first v₀ j end (omega arith) (omega arith)));
     }
 
-part-behind : (v s t : List Cell) (p e : ℕ) → length s ≡ p → take e v ≡ s ++ t → part p e v ≡ t
+pub part-behind : (v s t : List Cell) (p e : ℕ) → length s ≡ p → take e v ≡ s ++ t → part p e v ≡ t
 unfolding part
 part-behind v s t p e n x = ap (drop p) x ∙ rw (← n) (drop-append-seam s t)
 

@@ -15,6 +15,7 @@
 --   slotsAt f k j      the slots from item j on, where there are k items
 --   evenRun e s        an even number of backslashes stands at the end of s (e: of what stands before s)
 --   Inserts ..         a cell has been put before the cells from place p on
+--   Becomes g ..       the cells from place p on have become others by g
 -- Assumes nothing.
 use mathlib.Core.List.{List, [], _∷_, _++_}
 use mathlib.Core.Bool.{Bool, true, false, not, _&&_, cond}
@@ -24,8 +25,8 @@ use Rattle.text.specs.Writes.{Holds}
 use lib.Dec.{eqb, leb, ltb}
 use lib.ListN.{length, take, getD, set}
 use mathlib.Core.Option.{Option, none, some}
-use Rattle.text.specs.Cells.{Cell, bytes, cells, part}
-use Rattle.marks.specs.Marks.{Kind, bold, italic, underline, strike, Tag, opener, closer, Tokens, last, cut, scan, Items, end, text, gone, mark, Slots, open-end, closed, front, after, ends, Kinds, kinds, no-kinds, has, add, content, Next, nothing, a-byte, a-mark}
+use Rattle.text.specs.Cells.{Cell, bytes, cells, part, sign}
+use Rattle.marks.specs.Marks.{Kind, bold, italic, underline, strike, Tag, opener, closer, Tokens, last, cut, scan, Items, end, text, gone, mark, Slots, open-end, closed, front, after, ends, Kinds, kinds, no-kinds, has, add, closing, content, Next, nothing, a-byte, a-mark}
 
 pub data Flat : Type 0 where
   piece vanish leave : List Cell → Flat
@@ -292,3 +293,14 @@ pub record Inserts (v : List Cell) (p at : ℕ) (v' : List Cell) (at' : ℕ) (c 
   pub step : (s t : List Cell) → length s ≡ p → Holds v at (s ++ t) → Holds v' at' (s ++ (c ∷ t))
   pub keeps : take p v' ≡ take p v
   pub grows : at ≤ at'
+
+-- the cells from place p on have become others by g
+pub record Becomes (g : List Cell → List Cell) (v : List Cell) (p at : ℕ) (v' : List Cell) (at' : ℕ) : Type 0 where
+  pub step : (s t : List Cell) → length s ≡ p → Holds v at (s ++ t) → Holds v' at' (s ++ g t)
+  pub keeps : take p v' ≡ take p v
+  pub grows : at ≤ at'
+
+-- a mark's cells from its opening delimiter on, with a brace before and its closing delimiter behind them
+abbrev pub behindBrace : (braces : Bool) → (d : ℕ) → List Cell → List Cell
+behindBrace true d t = (sign 123 ∷ t) ++ closing true d
+behindBrace false d t = t ++ closing false d

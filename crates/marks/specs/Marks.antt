@@ -346,12 +346,15 @@ abbrev pub closing : Bool → ℕ → List Cell
 closing true d = sign d ∷ sign 125 ∷ []
 closing false d = sign d ∷ []
 
--- The body in its delimiters, its own span before those inside it.
+-- The body in its delimiters.
+unfoldable pub wrapText : (d : ℕ) → (braces : Bool) → List Cell → List Cell
+wrapText d br body = opening br d ++ (escapeLast (is "{") true body ++ closing br d)
+
+-- Its own span stands before those inside it.
 unfoldable pub wrap : Kind → (braces : Bool) → Written → Written
 wrap k br body =
-    let o = opening br (delimiter k) in
-    let all = o ++ (escapeLast (is "{") true (body .cells) ++ closing br (delimiter k)) in
-    record { cells = all; spans = record { kind = k; from = 0; to = length all } ∷ map (shift (length o)) (body .spans) }
+    let all = wrapText (delimiter k) br (body .cells) in
+    record { cells = all; spans = record { kind = k; from = 0; to = length all } ∷ map (shift (length (opening br (delimiter k)))) (body .spans) }
 
 -- A mark. Without content it writes nothing.
 unfoldable pub markStep : (content : Bool) → Kind → (body : Written) → Next → State → Step
@@ -388,5 +391,5 @@ spanNumbers (s ∷ l) = s .from ∷ s .to ∷ spanNumbers l
 
 -- all of this module, for `unfolding` where a closed text is to be computed
 unfoldable pub computes : Unit {0}
-unfolding kindOf tagOfBytes tagAt scan after ends parse _⧺_ whole items has add merge class lastOr content next escapeLast pieceText textStep braced wrap markStep write marks taken takenMarks spanNumbers
+unfolding kindOf tagOfBytes tagAt scan after ends parse _⧺_ whole items has add merge class lastOr content next escapeLast pieceText textStep braced wrapText wrap markStep write marks taken takenMarks spanNumbers
 computes = tt

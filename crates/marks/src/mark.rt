@@ -1,0 +1,80 @@
+// A mark's delimiters around its body, and its span.
+use crate::class::is_braced;
+use crate::piece::insert;
+use crate::piece::is_even;
+use text::TextAt;
+use text::write::put_sign;
+ghost use mathlib.Core.Path.{_≡_};
+ghost use mathlib.Core.Bool.{true};
+ghost use Prim.Native.Nat.{_≤_, _<_};
+ghost use lib.ListN.{length, getD};
+ghost use Prim.Native.Nat.{_+_, _-_};
+ghost use Rattle.text.specs.Ascii.{is};
+ghost use Rattle.text.specs.Cells.{cells, sign};
+ghost use Rattle.text.specs.Writes.{Appends};
+ghost use Rattle.marks.specs.Marks.{delimiter, braced, escapeLast, closing};
+ghost use Rattle.marks.specs.Flat.{kindNumbered, Becomes, behindBrace};
+
+// The delimiter of a kind.
+pub fn delimiter_of(kind: u32) -> u8
+    ensures { λ r. ⌜ r ≡ delimiter (kindNumbered kind) ⌝ }
+{
+    if kind == 0 {
+        return b'*';
+    }
+    if kind == 1 {
+        return b'/';
+    }
+    if kind == 2 {
+        return b'_';
+    }
+    b'~'
+}
+
+// Whether the mark whose body stands from place p up to `end` takes the braced form.
+pub fn takes_braces(buf: &[u8], p: usize, end: usize, d: u8, before: usize, next: usize) -> bool
+    requires { ⌜ ((p < end) × (end ≤ length (now buf))) × ((before ≤ 256) × (next ≤ 256)) ⌝ }
+    ensures { λ r. ⌜ r ≡ braced d (getD (now (buf .entry)) p 0) (getD (now (buf .entry)) (end - 1) 0) before next ⌝ }
+{
+    is_braced(
+        d as usize,
+        buf[p] as usize,
+        buf[end - 1] as usize,
+        before,
+        next,
+    )
+}
+
+// Escapes a last `{` of the cells from place p up to `at`.
+pub fn escape_brace(buf: &mut [u8], nums: &mut [u32], p: usize, at: TextAt) -> TextAt
+    requires { ⌜ ((p < at .0) × (at .0 ≤ length (now buf))) × (length (now buf) ≤ length (now nums)) ⌝ }
+    ensures { λ r. ⌜ Becomes (escapeLast (is "{") true) (cells (now (buf .entry)) (now (nums .entry))) p (at .0) (cells (now (buf .exit)) (now (nums .exit))) (r .0) ⌝ }
+{
+    let last = at.0 - 1;
+    if buf[last] == b'{' {
+        if is_even(&buf[..], p, last) {
+            return insert(buf, nums, last, at, b'\\');
+        }
+    }
+    at
+}
+
+// The closing delimiter of a mark that starts at place p with its opening one.
+pub fn close_mark(
+    buf: &mut [u8],
+    nums: &mut [u32],
+    p: usize,
+    at: TextAt,
+    d: u8,
+    braces: bool,
+) -> TextAt
+    requires { ⌜ (p ≤ at .0) × (length (now buf) ≤ length (now nums)) ⌝ }
+    ensures { λ r. ⌜ Becomes (behindBrace braces d) (cells (now (buf .entry)) (now (nums .entry))) p (at .0) (cells (now (buf .exit)) (now (nums .exit))) (r .0) ⌝ }
+{
+    if braces {
+        let open = insert(buf, nums, p, at, b'{');
+        let shut = put_sign(buf, nums, open, d);
+        return put_sign(buf, nums, shut, b'}');
+    }
+    put_sign(buf, nums, at, d)
+}
