@@ -15,3 +15,4 @@ pub mod Merging
 pub mod Slotting
 pub mod Looking
 pub mod Wrapping
+pub mod Listing

@@ -6,14 +6,16 @@ use text::TextAt;
 use text::write::put_sign;
 ghost use mathlib.Core.Path.{_≡_};
 ghost use mathlib.Core.Bool.{true};
-ghost use Prim.Native.Nat.{_≤_, _<_};
-ghost use lib.ListN.{length, getD};
+ghost use Prim.Native.Nat.{ℕ, _≤_, _<_};
+ghost use mathlib.Core.List.{_∷_, _++_};
+ghost use lib.ListN.{length, take, drop, getD};
 ghost use Prim.Native.Nat.{_+_, _-_};
 ghost use Rattle.text.specs.Ascii.{is};
 ghost use Rattle.text.specs.Cells.{cells, sign};
 ghost use Rattle.text.specs.Writes.{Appends};
 ghost use Rattle.marks.specs.Marks.{delimiter, braced, escapeLast, closing};
 ghost use Rattle.marks.specs.Flat.{kindNumbered, Becomes, behindBrace};
+ghost use Rattle.marks.specs.Spans.{raised};
 
 // The delimiter of a kind.
 pub fn delimiter_of(kind: u32) -> u8
@@ -77,4 +79,26 @@ pub fn close_mark(
         return put_sign(buf, nums, shut, b'}');
     }
     put_sign(buf, nums, at, d)
+}
+
+// Raises the span numbers from a up to e.
+fn raise_spans(spans: &mut [u32], a: usize, e: usize, by: u32)
+    requires { ⌜ ((a ≤ e) × (e ≤ length (now spans))) × ((by ≤ 1) × ((i : ℕ) → a ≤ i → i < e → getD (now spans) i 0 ≤ 16777216)) ⌝ }
+    ensures { λ _. ⌜ take e (now (spans .exit)) ≡ take a (now (spans .entry)) ++ raised by (drop a (take e (now (spans .entry)))) ⌝ }
+{
+    let mut i = a;
+    while i < e {
+        spans[i] = spans[i] + by;
+        i += 1;
+    }
+}
+
+// Lists a mark's span before those inside it, which stand from c + 2 up to e and are raised.
+fn put_span(spans: &mut [u32], c: usize, e: usize, start: usize, end: usize, by: u32)
+    requires { ⌜ (((c + 2 ≤ e) × (e ≤ length (now spans))) × ((start ≤ 16777216) × (end ≤ 16777216))) × ((by ≤ 1) × ((i : ℕ) → c + 2 ≤ i → i < e → getD (now spans) i 0 ≤ 16777216)) ⌝ }
+    ensures { λ _. ⌜ take e (now (spans .exit)) ≡ take c (now (spans .entry)) ++ (start ∷ end ∷ raised by (drop (c + 2) (take e (now (spans .entry))))) ⌝ }
+{
+    raise_spans(spans, c + 2, e, by);
+    spans[c] = start as u32;
+    spans[c + 1] = end as u32;
 }

@@ -1,0 +1,38 @@
+-- What the functions that write a slot say of the text and of the lent spans.
+--   raised by l      numbers raised by `by`
+--   marksIn t        how many marks items hold, at every depth
+--   Writes ..        a text and its spans have been written: from v at `at` and ss at c to v' at `at'` and ss' at c'
+-- Assumes nothing.
+use mathlib.Core.Path.{_≡_}
+use mathlib.Core.List.{List, [], _∷_, _++_, map}
+use Prim.Native.Nat.{ℕ, suc, _+_, _*_, _≤_, _<_}
+use lib.ListN.{length, take}
+use Rattle.text.specs.Cells.{Cell, cells}
+use Rattle.text.specs.Writes.{Appends}
+use Rattle.marks.specs.Marks.{Items, end, text, gone, mark, Written, shift, spanNumbers, start, write}
+use Rattle.marks.specs.Flat.{within, beyond, slotAt, Held, Fresh, kindsOf}
+
+abbrev pub raised : (by : ℕ) → List ℕ → List ℕ
+raised by = map (λ x. x + by)
+
+unfoldable pub marksIn : Items → ℕ
+marksIn end = 0
+marksIn (text p t) = marksIn t
+marksIn (gone s t) = marksIn t
+marksIn (mark k s a t) = suc (marksIn a + marksIn t)
+
+-- The spans are those of the text where it fits.
+pub record Writes (v : List Cell) (at : ℕ) (ss : List ℕ) (c : ℕ) (v' : List Cell) (at' : ℕ) (ss' : List ℕ) (c' : ℕ) (w : Written) : Type 0 where
+  pub text : Appends v at v' at' (w .cells)
+  pub count : c' ≡ c + 2 * length (w .spans)
+  pub spans : at' ≤ length v' → take c' ss' ≡ take c ss ++ spanNumbers (map (shift at) (w .spans))
+
+-- what writing the slot that starts at item `from` is asked: the kinds of a mask are open in it, and there is room for the spans of its marks
+pub record Slot (src ns : List ℕ) (k from mask : ℕ) (out origins ss : List ℕ) (c : ℕ) : Type 0 where
+  pub table : Held src ns k
+  pub up-to : from ≤ k
+  pub small : mask < 16
+  pub fresh : Fresh (kindsOf mask) (within (slotAt src ns k from))
+  pub short : length out ≤ 16777216
+  pub wide : length out ≤ length origins
+  pub room : c + 2 * marksIn (within (slotAt src ns k from)) ≤ length ss
