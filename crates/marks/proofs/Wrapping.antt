@@ -1,6 +1,6 @@
 -- Laws of a mark's delimiters around its body. Assumes nothing.
 use mathlib.Core.Path.{_≡_, refl, sym, ap, _∙_, subst}
-use mathlib.Core.Bool.{Bool, true, false, not, _&&_}
+use mathlib.Core.Bool.{Bool, true, false, not, cond, _&&_}
 use mathlib.Core.List.{List, [], _∷_, _++_, append-assoc, append-nil}
 use Prim.Native.Nat.{ℕ, zero, suc, _+_, _-_, _≤_, _<_}
 use native.Mathlib.Nat.{le-trans}
@@ -87,3 +87,20 @@ module _ (bs ns : List ℕ) (p at last : ℕ) (lt : p < at) (fit : at ≤ length
     keeps = refl;
     grows = omega arith;
   }
+
+-- ---- both, one after the other
+
+pub closes-step : {v v₁ v₂ : List Cell} {p at at₁ at₂ : ℕ} (br : Bool) (d : ℕ) → Becomes (escapeLast (is "{") true) v (p + 1) at v₁ at₁ → Becomes (behindBrace br d) v₁ p at₁ v₂ at₂
+    → (o : Cell) (s body : List Cell) → length s ≡ p → Holds v at (s ++ (o ∷ body)) → Holds v₂ at₂ (s ++ behindBrace br d (o ∷ escapeLast (is "{") true body))
+closes-step {v} {v₁} {v₂} {p} {at} {at₁} {at₂} br d a b o s body n h =
+    let l = length-append s (o ∷ []) in
+    let h₁ : Holds v at ((s ++ (o ∷ [])) ++ body) = subst (Holds v at) (sym (append-assoc s (o ∷ []) body)) h in
+    let h₂ = a .step (s ++ (o ∷ [])) body (omega arith) h₁ in
+    b .step s (o ∷ escapeLast (is "{") true body) n (subst (Holds v₁ at₁) (append-assoc s (o ∷ []) (escapeLast (is "{") true body)) h₂)
+
+pub closes-keeps : {v v₁ v₂ : List Cell} {p at at₁ at₂ : ℕ} (br : Bool) (d : ℕ) → Becomes (escapeLast (is "{") true) v (p + 1) at v₁ at₁ → Becomes (behindBrace br d) v₁ p at₁ v₂ at₂ → take p v₂ ≡ take p v
+closes-keeps {v} {v₁} {v₂} {p} br d a b = b .keeps ∙ sym (take-take p (p + 1) v₁ (omega arith)) ∙ ap (take p) (a .keeps) ∙ take-take p (p + 1) v (omega arith)
+
+pub one-small : (b : Bool) (by : ℕ) → by ≡ cond b 1 0 → by ≤ 1
+one-small true by e = omega arith
+one-small false by e = omega arith

@@ -1,16 +1,19 @@
 -- What the functions that write a slot say of the text and of the lent spans.
 --   raised by l      numbers raised by `by`
 --   marksIn t        how many marks items hold, at every depth
+--   Finished ..      a mark's delimiters stand around its body, and its span before those inside it
 --   Writes ..        a text and its spans have been written: from v at `at` and ss at c to v' at `at'` and ss' at c'
 -- Assumes nothing.
 use mathlib.Core.Path.{_≡_}
 use mathlib.Core.List.{List, [], _∷_, _++_, map}
-use Prim.Native.Nat.{ℕ, suc, _+_, _*_, _≤_, _<_}
-use lib.ListN.{length, take}
+use Prim.Native.Nat.{ℕ, suc, _+_, _-_, _*_, _≤_, _<_}
+use lib.ListN.{length, take, drop, getD}
+use mathlib.Core.Bool.{Bool, true, cond}
+use Rattle.text.specs.Ascii.{is}
 use Rattle.text.specs.Cells.{Cell, cells}
-use Rattle.text.specs.Writes.{Appends}
-use Rattle.marks.specs.Marks.{Items, end, text, gone, mark, Written, shift, spanNumbers, start, write}
-use Rattle.marks.specs.Flat.{within, beyond, slotAt, Held, Fresh, kindsOf}
+use Rattle.text.specs.Writes.{Holds, Appends}
+use Rattle.marks.specs.Marks.{Items, end, text, gone, mark, Written, shift, spanNumbers, start, write, braced, escapeLast}
+use Rattle.marks.specs.Flat.{within, beyond, slotAt, Held, Fresh, kindsOf, behindBrace}
 
 abbrev pub raised : (by : ℕ) → List ℕ → List ℕ
 raised by = map (λ x. x + by)
@@ -36,3 +39,11 @@ pub record Slot (src ns : List ℕ) (k from mask : ℕ) (out origins ss : List �
   pub short : length out ≤ 16777216
   pub wide : length out ≤ length origins
   pub room : c + 2 * marksIn (within (slotAt src ns k from)) ≤ length ss
+
+-- a mark that starts at place p with its opening delimiter, of which the body ends at `at` and the spans inside it at e, has been finished
+pub record Finished (out origins : List ℕ) (p at : ℕ) (ss : List ℕ) (c e d before next : ℕ) (out' origins' : List ℕ) (to : ℕ) (ss' : List ℕ) (braces : Bool) : Type 0 where
+  pub form : braces ≡ braced d (getD out (p + 1) 0) (getD out (at - 1) 0) before next
+  pub step : (o : Cell) (s body : List Cell) → length s ≡ p → Holds (cells out origins) at (s ++ (o ∷ body)) → Holds (cells out' origins') to (s ++ behindBrace braces d (o ∷ escapeLast (is "{") true body))
+  pub keeps : take p (cells out' origins') ≡ take p (cells out origins)
+  pub grows : at ≤ to
+  pub spans : to ≤ length out → take e ss' ≡ take c ss ++ (p ∷ to ∷ raised (cond braces 1 0) (drop (c + 2) (take e ss)))

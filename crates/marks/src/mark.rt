@@ -5,7 +5,7 @@ use crate::piece::is_even;
 use text::TextAt;
 use text::write::put_sign;
 ghost use mathlib.Core.Path.{_≡_};
-ghost use mathlib.Core.Bool.{true};
+ghost use mathlib.Core.Bool.{true, cond};
 ghost use Prim.Native.Nat.{ℕ, _≤_, _<_};
 ghost use mathlib.Core.List.{_∷_, _++_};
 ghost use lib.ListN.{length, take, drop, getD};
@@ -15,7 +15,7 @@ ghost use Rattle.text.specs.Cells.{cells, sign};
 ghost use Rattle.text.specs.Writes.{Appends};
 ghost use Rattle.marks.specs.Marks.{delimiter, braced, escapeLast, closing};
 ghost use Rattle.marks.specs.Flat.{kindNumbered, Becomes, behindBrace};
-ghost use Rattle.marks.specs.Spans.{raised};
+ghost use Rattle.marks.specs.Spans.{raised, Finished};
 
 // The delimiter of a kind.
 pub fn delimiter_of(kind: u32) -> u8
@@ -101,4 +101,46 @@ fn put_span(spans: &mut [u32], c: usize, e: usize, start: usize, end: usize, by:
     raise_spans(spans, c + 2, e, by);
     spans[c] = start as u32;
     spans[c + 1] = end as u32;
+}
+
+fn one_if(yes: bool) -> u32
+    ensures { λ r. ⌜ r ≡ cond yes 1 0 ⌝ }
+{
+    if yes {
+        return 1;
+    }
+    0
+}
+
+// Where a mark ends, and whether it took the braced form.
+pub struct Closed {
+    pub to: usize,
+    pub braces: bool,
+}
+
+// Finishes a mark that starts at place p: its body ends at `at`, the spans inside it at e.
+pub fn finish_mark(
+    buf: &mut [u8],
+    nums: &mut [u32],
+    spans: &mut [u32],
+    p: usize,
+    at: TextAt,
+    c: usize,
+    e: usize,
+    d: u8,
+    before: usize,
+    next: usize,
+) -> Closed
+    requires { ⌜ (((p + 1 < at .0) × (at .0 ≤ length (now buf))) × ((length (now buf) ≤ length (now nums)) × (length (now buf) ≤ 16777216))) × (((c + 2 ≤ e) × (e ≤ length (now spans))) × (((before ≤ 256) × (next ≤ 256)) × ((i : ℕ) → c + 2 ≤ i → i < e → getD (now spans) i 0 ≤ 16777216))) ⌝ }
+    ensures { λ r. ⌜ Finished (now (buf .entry)) (now (nums .entry)) p (at .0) (now (spans .entry)) c e d before next (now (buf .exit)) (now (nums .exit)) (r .to) (now (spans .exit)) (r .braces) ⌝ }
+{
+    let braces = takes_braces(&buf[..], p + 1, at.0, d, before, next);
+    let escaped = escape_brace(buf, nums, p + 1, at);
+    let closed = close_mark(buf, nums, p, escaped, d, braces);
+    let to = closed.0;
+    if to <= buf.len() {
+        put_span(spans, c, e, p, to, one_if(braces));
+        return Closed { to, braces };
+    }
+    Closed { to, braces }
 }
