@@ -16,3 +16,4 @@ pub mod Slotting
 pub mod Looking
 pub mod Wrapping
 pub mod Listing
+pub mod Drawing

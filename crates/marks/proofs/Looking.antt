@@ -5,10 +5,11 @@ use mathlib.Core.Bool.{Bool, true, false, cond, _||_}
 use Prim.Native.Nat.{ℕ, zero, suc, _+_, _-_, _*_, _%_, _≤_, _<_, max}
 use native.Mathlib.Omega.{arith}
 use lib.Dec.{eqb}
+use borrow.Author.Tests.{ne-eqb}
 use lib.ListN.{length, getD}
 use Rattle.text.specs.Cells.{Cell, cell, cells, part}
 use Rattle.marks.specs.Marks.{Kind, Items, end, text, gone, mark, Slots, open-end, closed, front, content, Next, nothing, a-byte, a-mark, next}
-use Rattle.marks.specs.Flat.{around, within, beyond, depthOf, boundAt, slotAt, kindNumbered, Held, Ready, Empty, Answer, nextNumber}
+use Rattle.marks.specs.Flat.{around, within, beyond, depthOf, boundAt, slotAt, kindNumbered, Held, Ready, Empty, Answer, nextNumber, NextIs}
 use Rattle.marks.proofs.Slotting.{code, spelled, front-within, front-beyond, around-within, around-beyond, at-text, at-leave, at-gone, at-mark, at-end, no-text, some-text}
 
 -- the loop at item i of the slot that starts at `at`
@@ -133,3 +134,14 @@ answer-some src ns k at h = record { some = λ z. h; empty = λ j e. absurd (ome
 pub answer-empty : (src ns : List ℕ) (k at j r : ℕ) → r ≡ suc j → Empty src ns k at j → Answer src ns k at r
 answer-empty src ns k at j r e h =
     record { some = λ z. absurd (omega arith); empty = λ i f. (let g : j ≡ i = omega arith in subst (λ (n : ℕ). Empty src ns k at n) g h) }
+
+-- ---- what is written next, as a number
+
+pub next-nothing : (n : Next) → n ≡ nothing → NextIs n 256
+next-nothing n e = rw e (record { number = refl; touches = refl; small = omega arith })
+
+pub next-mark : (n : Next) → n ≡ a-mark → NextIs n 257
+next-mark n e = rw e (record { number = refl; touches = refl; small = omega arith })
+
+pub next-byte : (n : Next) (a : ℕ) → n ≡ a-byte a → a < 256 → NextIs n a
+next-byte n a e h = rw e (record { number = refl; touches = ne-eqb a 257 (λ z. omega arith); small = omega arith })

@@ -11,13 +11,14 @@ use native.Mathlib.Decide.{decLe}
 use lib.Dec.{eqb, ltb, leb}
 use lib.Bits.{bitAnd, bitOr}
 use lib.ListN.{length, take, drop, getD, set, length-set}
-use lib.Seq.{getD-set-same, getD-set-other}
+use lib.Seq.{getD-set-same, getD-set-other, take-take}
 use borrow.Author.Tests.{le-leb, lt-leb, eq-eqb, ne-eqb}
 use Rattle.text.specs.Cells.{Cell, part}
 use Rattle.marks.specs.Marks.{Kind, Kinds, kinds, no-kinds, has, add}
-use Rattle.marks.specs.Flat.{Flat, piece, vanish, leave, enter, begun, Outer, entered, leaving, outside, rest, merged, flatOf, codeAt, boundAt, flatAt, flats, kindNumbered, bitOf, kindsOf, outersOf, MergedItem, Recodes}
+use Rattle.marks.specs.Flat.{Flat, piece, vanish, leave, enter, begun, Outer, entered, leaving, outside, rest, merged, flatOf, codeAt, boundAt, flatAt, flats, kindNumbered, bitOf, kindsOf, outersOf, MergedItem, Recodes, Tagged, Itemed, Bounded, settled, flatMarks}
 use Rattle.marks.proofs.Tabling.{flats-same, flats-more}
 use Rattle.marks.proofs.Settling.{flat-leave, flat-gone, flat-enter, flat-begun, recoded, flat-code, flatAt-by, take-same}
+use Rattle.marks.proofs.TagReading.{same-bound}
 use Rattle.marks.proofs.Masks.{Fits, fits}
 
 outers-same : (ns ns' : List ℕ) (n depth : ℕ) → ((i : ℕ) → 3 * n + 3 ≤ i → i < 3 * n + 3 + depth → getD ns' i 0 ≡ getD ns i 0) → outersOf ns' n depth ≡ outersOf ns n depth
@@ -235,4 +236,20 @@ merging-end ns₀ ns n k j mask depth h l m =
     record {
       items = λ x. (let b : flats (flatAt x ns n) j 0 ++ [] ≡ merged (flats (flatAt x ns₀ n) k 0) no-kinds [] = rw y at (m .is x) in ap (λ (i : ℕ). flats (flatAt x ns n) i 0) (sym z) ∙ sym (append-nil (flats (flatAt x ns n) j 0)) ∙ b);
       source = take-same ns ns₀ (2 * n + 2) l (λ i lt. m .same i (inl lt) (omega arith));
+    }
+
+-- ---- all three: the tags read, settled and merged
+
+pub itemed : (src ns ns₁ ns₂ ns₃ : List ℕ) (k : ℕ) → Tagged src ns ns₁ k → Recodes (λ f. settled f .flat) (length src) k ns₁ ns₂ → Recodes (λ f. merged f no-kinds []) (length src) k ns₂ ns₃ → Itemed src ns ns₃ k
+unfolding Bounded flatMarks
+itemed src ns ns₁ ns₂ ns₃ k t a b =
+    let n = length src in
+    let f = t .few in
+    let s : take (2 * n + 2) ns₃ ≡ take (2 * n + 2) ns₁ = b .source ∙ a .source in
+    let same : (j : ℕ) → n + j < 2 * n + 2 → boundAt ns₃ n j ≡ boundAt ns₁ n j = λ j h. same-bound ns₁ ns₃ n (2 * n + 2) j s h in
+    record {
+      items = λ x e. b .items x ∙ rw (a .items x, t .items x e);
+      bounded = λ j h. rw (same j (omega arith), same (j + 1) (omega arith)) (t .bounded j h);
+      few = t .few;
+      source = sym (take-take n (2 * n + 2) ns₃ (omega arith)) ∙ ap (take n) s ∙ take-take n (2 * n + 2) ns₁ (omega arith) ∙ t .source;
     }

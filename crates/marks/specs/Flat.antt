@@ -11,6 +11,7 @@
 --                      from place 2n + 2 on
 --   flats f k j        k items from number j on
 --   Tagged ..          the tokens of a text are held as k items
+--   Itemed ..          its merged items are
 --   Recodes g ..       k items have become others by g
 --   slotsAt f k j      the slots from item j on, where there are k items
 --   evenRun e s        an even number of backslashes stands at the end of s (e: of what stands before s)
@@ -26,7 +27,7 @@ use lib.Dec.{eqb, leb, ltb}
 use lib.ListN.{length, take, getD, set}
 use mathlib.Core.Option.{Option, none, some}
 use Rattle.text.specs.Cells.{Cell, bytes, cells, part, sign}
-use Rattle.marks.specs.Marks.{Kind, bold, italic, underline, strike, Tag, opener, closer, Tokens, last, cut, scan, Items, end, text, gone, mark, Slots, open-end, closed, front, after, ends, Kinds, kinds, no-kinds, has, add, closing, content, Next, nothing, a-byte, a-mark}
+use Rattle.marks.specs.Marks.{Kind, bold, italic, underline, strike, Tag, opener, closer, Tokens, last, cut, scan, Items, end, text, gone, mark, Slots, open-end, closed, front, after, ends, Kinds, kinds, no-kinds, has, add, closing, content, Next, nothing, a-byte, a-mark, marked}
 
 pub data Flat : Type 0 where
   piece vanish leave : List Cell → Flat
@@ -246,6 +247,13 @@ pub record SettledItem (ns ns' : List ℕ) (n j closes closes' : ℕ) : Type 0 w
   pub others : (i : ℕ) → (i ≡ 2 * n + 2 + j → ⊥) → getD ns' i 0 ≡ getD ns i 0
   pub few : closes' ≤ closes + 1
 
+-- the merged items of a text are held as k items
+pub record Itemed (src ns ns' : List ℕ) (k : ℕ) : Type 0 where
+  pub items : (x : List Cell) → bytes x ≡ src → flats (flatAt x ns' (length src)) k 0 ≡ flatMarks x
+  pub bounded : Bounded ns' (length src) k
+  pub few : k ≤ length src + 1
+  pub source : take (length src) ns' ≡ take (length src) ns
+
 -- the items that a text and the lent numbers hold
 unfoldable pub held : (src ns : List ℕ) → ℕ → Flat
 held src ns j = flatAt (cells src ns) ns (length src) j
@@ -281,6 +289,11 @@ abbrev pub nextNumber : Next → ℕ
 nextNumber nothing = 256
 nextNumber (a-byte a) = a
 nextNumber a-mark = 257
+
+pub record NextIs (n : Next) (r : ℕ) : Type 0 where
+  pub number : r ≡ nextNumber n
+  pub touches : eqb r 257 ≡ marked n
+  pub small : r ≤ 257
 
 -- ---- What code tests and moves
 

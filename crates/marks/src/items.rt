@@ -7,7 +7,7 @@ ghost use mathlib.Core.List.{[]};
 ghost use Prim.Native.Nat.{_+_, _*_, _≤_, _<_};
 ghost use lib.ListN.{length};
 ghost use Rattle.marks.specs.Marks.{ends, no-kinds};
-ghost use Rattle.marks.specs.Flat.{numberedTag, codeOf, widthOf, stackOf, withItem, Stacked, Tagged, settled, SettledItem, merged, MergedItem, bitOf, Recodes};
+ghost use Rattle.marks.specs.Flat.{numberedTag, codeOf, widthOf, stackOf, withItem, Stacked, Tagged, settled, SettledItem, merged, MergedItem, bitOf, Recodes, Itemed};
 
 // Item j, which ends at `end`.
 fn put_item(nums: &mut [u32], n: usize, j: usize, end: usize, code: u32)
@@ -201,4 +201,15 @@ pub fn merge(nums: &mut [u32], n: usize, k: usize)
         state = merge_item(nums, n, j, state);
         j += 1;
     }
+}
+
+// Reads a text's items: its tags, which openers are closed, which marks are merged. The number of items.
+pub fn read_items(text: &[u8], nums: &mut [u32]) -> usize
+    requires { ⌜ (length (now text) ≤ 262144) × (4 * length (now text) + 4 ≤ length (now nums)) ⌝ }
+    ensures { λ r. ⌜ Itemed (now (text .entry)) (now (nums .entry)) (now (nums .exit)) r ⌝ }
+{
+    let k = read_tags(text, nums);
+    settle(nums, text.len(), k);
+    merge(nums, text.len(), k);
+    k
 }

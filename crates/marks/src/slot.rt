@@ -1,7 +1,6 @@
 // Looking through a slot and writing it. A slot is given by the number of its first item.
-ghost use mathlib.Core.Path.{_≡_};
 ghost use Rattle.marks.specs.Marks.{next};
-ghost use Rattle.marks.specs.Flat.{within, slotAt, nextNumber, Ready, Answer};
+ghost use Rattle.marks.specs.Flat.{within, slotAt, NextIs, Ready, Answer};
 
 // Whether a slot holds text, at some depth: 0 if so, else 1 + the item behind the slot.
 pub fn content(text: &[u8], nums: &[u32], k: usize, from: usize, depth: usize) -> usize
@@ -36,7 +35,7 @@ pub fn content(text: &[u8], nums: &[u32], k: usize, from: usize, depth: usize) -
 // What is written next in a slot: a byte, 256 for nothing, 257 for a mark with content.
 pub fn next_of(text: &[u8], nums: &[u32], k: usize, from: usize, depth: usize) -> usize
     requires { ⌜ Ready (now text) (now nums) k from depth ⌝ }
-    ensures { λ r. ⌜ r ≡ nextNumber (next (within (slotAt (now (text .entry)) (now (nums .entry)) k from))) ⌝ }
+    ensures { λ r. ⌜ NextIs (next (within (slotAt (now (text .entry)) (now (nums .entry)) k from))) r ⌝ }
 {
     let n = text.len();
     let mut i = from;

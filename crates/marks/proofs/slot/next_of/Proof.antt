@@ -6,6 +6,7 @@ use mathlib.Core.List.{List, [], _∷_, _++_}
 use lib.ListN.{length, getD}
 use lib.ListN.{length}
 use Prim.Native.Nat.{_*_}
+use Rattle.marks.proofs.Looking.{next-nothing, next-mark, next-byte}
 use Rattle.marks.proofs.Looking.{Here, here-start, look-end, look-leave, look-text, look-gone, look-nothing, mark-deep, mark-ready, mark-some, mark-empty}
 use Rattle.marks.proofs.Slotting.{bounds}
 use Rattle.marks.specs.Flat.{boundAt, Ready, nextNumber}
@@ -43,7 +44,7 @@ returns : tie.Need-returns Inv-loop μ-loop
 returns c =
     let l = c .before .before .before .loop in
     let a = c .before .before .before .before .before .before .args in
-    sym (ap nextNumber (look-leave (a .text .now) (a .nums .now) (a .k) (a .from) (a .depth) (l .i) (l .inv) (omega arith) (c .if1 .taken) .1))
+    next-nothing _ (look-leave (a .text .now) (a .nums .now) (a .k) (a .from) (a .depth) (l .i) (l .inv) (omega arith) (c .if1 .taken) .1)
 
 add-a : tie.Need-add-a Inv-loop μ-loop
 add-a c = let l = c .before .before .before .before .loop in let t′ = l .inv .ready .table in let sm = t′ .small in let rm = t′ .room in let fw = t′ .few in let up = l .inv .ready .up-to in search needs
@@ -89,7 +90,7 @@ unfolding boundAt
 returns-2 c =
     let l = c .before .before .before .before .before .before .before .before .loop in
     let a = c .before .before .before .before .before .before .before .before .before .before .before .args in
-    sym (ap nextNumber (look-text (a .text .now) (a .nums .now) (a .k) (a .from) (a .depth) (l .i) (l .inv) (omega arith) (c .before .before .before .before .if2 .taken) (c .before .if3 .taken) .1))
+    next-byte _ _ (look-text (a .text .now) (a .nums .now) (a .k) (a .from) (a .depth) (l .i) (l .inv) (omega arith) (c .before .before .before .before .if2 .taken) (c .before .if3 .taken) .1) (omega (arith, c .shared-slice-known6 .given (getD (a .nums .now) (length (a .text .now) + l .i) 0)))
 
 add-i : tie.Need-add-i Inv-loop μ-loop
 add-i c = let l = c .before .before .before .before .before .before .before .loop in let t′ = l .inv .ready .table in let sm = t′ .small in let rm = t′ .room in let fw = t′ .few in let up = l .inv .ready .up-to in search needs
@@ -135,7 +136,7 @@ returns-3 : tie.Need-returns-3 Inv-loop μ-loop
 returns-3 c =
     let l = c .before .before .before .before .before .before .before .loop in
     let a = c .before .before .before .before .before .before .before .before .before .before .args in
-    sym (ap nextNumber (mark-some (a .text .now) (a .nums .now) (a .k) (a .from) (a .depth) (l .i) (l .inv) (omega arith) (c .before .before .if4 .left) (c .before .content .ensures .some (c .if5 .taken)) .1))
+    next-mark _ (mark-some (a .text .now) (a .nums .now) (a .k) (a .from) (a .depth) (l .i) (l .inv) (omega arith) (c .before .before .if4 .left) (c .before .content .ensures .some (c .if5 .taken)) .1)
 
 sub-i : tie.Need-sub-i Inv-loop μ-loop
 sub-i c = let z = c .if5 .left in omega arith
@@ -160,7 +161,7 @@ returns-4 : tie.Need-returns-4 Inv-loop μ-loop
 returns-4 c =
     let l = c .before .loop in
     let a = c .before .before .before .before .args in
-    sym (ap nextNumber (look-end (a .text .now) (a .nums .now) (a .k) (a .from) (a .depth) (l .i) (l .inv) (omega arith) .1))
+    next-nothing _ (look-end (a .text .now) (a .nums .now) (a .k) (a .from) (a .depth) (l .i) (l .inv) (omega arith) .1)
 
 pub next-of-spec : {M : Type 1} → statement M
 next-of-spec =
