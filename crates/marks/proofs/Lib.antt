@@ -17,3 +17,4 @@ pub mod Looking
 pub mod Wrapping
 pub mod Listing
 pub mod Drawing
+pub mod SlotWriting

@@ -6,14 +6,14 @@
 -- Assumes nothing.
 use mathlib.Core.Path.{_≡_}
 use mathlib.Core.List.{List, [], _∷_, _++_, map}
-use Prim.Native.Nat.{ℕ, suc, _+_, _-_, _*_, _≤_, _<_}
+use Prim.Native.Nat.{ℕ, suc, _+_, _-_, _*_, _%_, _≤_, _<_}
 use lib.ListN.{length, take, drop, getD}
-use mathlib.Core.Bool.{Bool, true, cond}
+use mathlib.Core.Bool.{Bool, true, false, cond}
 use Rattle.text.specs.Ascii.{is}
 use Rattle.text.specs.Cells.{Cell, cells}
 use Rattle.text.specs.Writes.{Holds, Appends}
-use Rattle.marks.specs.Marks.{Items, end, text, gone, mark, Written, shift, spanNumbers, start, write, braced, escapeLast}
-use Rattle.marks.specs.Flat.{within, beyond, slotAt, Held, Fresh, kindsOf, behindBrace}
+use Rattle.marks.specs.Marks.{Items, end, text, gone, mark, Written, shift, spanNumbers, start, write, next, State, Step, markStep, braced, escapeLast}
+use Rattle.marks.specs.Flat.{within, beyond, slotAt, Held, Fresh, kindNumbered, kindsOf, behindBrace}
 
 abbrev pub raised : (by : ℕ) → List ℕ → List ℕ
 raised by = map (λ x. x + by)
@@ -47,3 +47,23 @@ pub record Finished (out origins : List ℕ) (p at : ℕ) (ss : List ℕ) (c e d
   pub keeps : take p (cells out' origins') ≡ take p (cells out origins)
   pub grows : at ≤ to
   pub spans : to ≤ length out → take e ss' ≡ take c ss ++ (p ∷ to ∷ raised (cond braces 1 0) (drop (c + 2) (take e ss)))
+
+pub record SlotWritten (src ns : List ℕ) (k from : ℕ) (v : List Cell) (at : ℕ) (ss : List ℕ) (c : ℕ) (v' : List Cell) (at' : ℕ) (ss' : List ℕ) (c' item : ℕ) : Type 0 where
+  pub wrote : Writes v at ss c v' at' ss' c' (write (within (slotAt src ns k from)) start)
+  pub behind : slotAt src ns k item ≡ beyond (slotAt src ns k from)
+  pub up-to : item ≤ k
+  pub forward : from ≤ item
+
+-- the step of the mark that starts at item i, with `before` before it
+abbrev pub markAt : (src ns : List ℕ) → (k i before : ℕ) → Step
+markAt src ns k i before =
+    markStep true (kindNumbered (getD ns (2 * length src + 2 + i) 0 % 4)) (write (within (slotAt src ns k (i + 1))) start) (next (within (beyond (slotAt src ns k (i + 1)))))
+    (record { before = before; guarded = false })
+
+pub record MarkWritten (src ns : List ℕ) (k i before : ℕ) (v : List Cell) (at : ℕ) (ss : List ℕ) (c : ℕ) (v' : List Cell) (at' : ℕ) (ss' : List ℕ) (c' item before' : ℕ) (guarded' : Bool) : Type 0 where
+  pub wrote : Writes v at ss c v' at' ss' c' (markAt src ns k i before .wrote)
+  pub state : at' ≤ length v' → (before' ≡ markAt src ns k i before .state .before) × (guarded' ≡ markAt src ns k i before .state .guarded)
+  pub small : before' ≤ 256
+  pub behind : slotAt src ns k item ≡ beyond (slotAt src ns k (i + 1))
+  pub up-to : item ≤ k
+  pub forward : i < item
