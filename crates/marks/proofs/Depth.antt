@@ -22,7 +22,7 @@ bit-le : (b : Bool) → bit b ≤ 1
 bit-le true = omega arith
 bit-le false = omega arith
 
-count-le : (m : Kinds) → count m ≤ 4
+pub count-le : (m : Kinds) → count m ≤ 4
 unfolding count
 count-le (kinds b i u s) = omega (arith, bit-le b, bit-le i, bit-le u, bit-le s)
 

@@ -19,7 +19,7 @@ use Rattle.marks.specs.Spans.{raised, Writes}
 
 -- ---- texts behind one another
 
-shift-shift : (m n : ℕ) (l : List Span) → map (shift m) (map (shift n) l) ≡ map (shift (m + n)) l
+pub shift-shift : (m n : ℕ) (l : List Span) → map (shift m) (map (shift n) l) ≡ map (shift (m + n)) l
 shift-shift m n [] = refl
 shift-shift m n (s ∷ l) = rw (add-assoc m n (s .from), add-assoc m n (s .to)) (ap (λ (r : List Span). shift m (shift n s) ∷ r) (shift-shift m n l))
 

@@ -18,3 +18,5 @@ pub mod Wrapping
 pub mod Listing
 pub mod Drawing
 pub mod SlotWriting
+pub mod MarkWriting
+pub mod SlotAsking

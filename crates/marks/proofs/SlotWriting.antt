@@ -29,7 +29,7 @@ mark-count : (k : Kind) (w : Written) (n : Next) (st st' : State) → length (ma
 unfolding markStep wrap
 mark-count k w n st st' = ap suc (length-map (w .spans) _ ∙ sym (length-map (w .spans) _))
 
-one-more : (k : Kind) (w : Written) (n : Next) (st : State) → length (markStep true k w n st .wrote .spans) ≡ suc (length (w .spans))
+pub one-more : (k : Kind) (w : Written) (n : Next) (st : State) → length (markStep true k w n st .wrote .spans) ≡ suc (length (w .spans))
 unfolding markStep wrap
 one-more k w n st = ap suc (length-map (w .spans) _)
 
@@ -127,7 +127,7 @@ module _ (src ns : List ℕ) (k from mask : ℕ) (v₀ : List Cell) (at₀ : ℕ
       texted-beyond : beyond (slotAt src ns k i) ≡ beyond (slotAt src ns k (i + 1))
       texted-beyond = ap beyond (at-text src ns k i q zero-code) ∙ front-beyond (text (spelled src ns k i q)) (slotAt src ns k (i + 1))
 
-      fresh-later : Fresh (kindsOf mask) later
+      pub fresh-later : Fresh (kindsOf mask) later
       fresh-later = subst (Fresh (kindsOf mask)) texted (m .fresh)
 
       marks-later : marksIn (within (slotAt src ns k i)) ≡ marksIn later

@@ -12,7 +12,7 @@ use mathlib.Core.Bool.{Bool, true, false, cond}
 use Rattle.text.specs.Ascii.{is}
 use Rattle.text.specs.Cells.{Cell, cells}
 use Rattle.text.specs.Writes.{Holds, Appends}
-use Rattle.marks.specs.Marks.{Items, end, text, gone, mark, Written, shift, spanNumbers, start, write, next, State, Step, markStep, braced, escapeLast}
+use Rattle.marks.specs.Marks.{Items, end, text, gone, mark, Written, shift, spanNumbers, start, write, content, next, State, Step, markStep, braced, escapeLast}
 use Rattle.marks.specs.Flat.{within, beyond, slotAt, Held, Fresh, kindNumbered, kindsOf, behindBrace}
 
 abbrev pub raised : (by : ℕ) → List ℕ → List ℕ
@@ -47,6 +47,14 @@ pub record Finished (out origins : List ℕ) (p at : ℕ) (ss : List ℕ) (c e d
   pub keeps : take p (cells out' origins') ≡ take p (cells out origins)
   pub grows : at ≤ to
   pub spans : to ≤ length out → take e ss' ≡ take c ss ++ (p ∷ to ∷ raised (cond braces 1 0) (drop (c + 2) (take e ss)))
+
+-- what writing the mark that starts at item i is asked
+pub record MarkReady (src ns : List ℕ) (k i mask before : ℕ) (out origins ss : List ℕ) (c : ℕ) : Type 0 where
+  pub slot : Slot src ns k i mask out origins ss c
+  pub inside : i < k
+  pub mark : 4 ≤ getD ns (2 * length src + 2 + i) 0
+  pub some : content (within (slotAt src ns k (i + 1))) ≡ true
+  pub small : before ≤ 256
 
 pub record SlotWritten (src ns : List ℕ) (k from : ℕ) (v : List Cell) (at : ℕ) (ss : List ℕ) (c : ℕ) (v' : List Cell) (at' : ℕ) (ss' : List ℕ) (c' item : ℕ) : Type 0 where
   pub wrote : Writes v at ss c v' at' ss' c' (write (within (slotAt src ns k from)) start)
