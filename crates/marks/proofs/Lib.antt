@@ -20,3 +20,4 @@ pub mod Drawing
 pub mod SlotWriting
 pub mod MarkWriting
 pub mod SlotAsking
+pub mod Passing
