@@ -1,0 +1,59 @@
+-- The whole pass over a text: what its items write is what the definition gives. Assumes nothing.
+use mathlib.Core.Path.{_≡_, refl, sym, ap, _∙_, subst}
+use mathlib.Core.List.{List, [], _∷_}
+use Prim.Native.Nat.{ℕ, zero, suc, _+_, _-_, _*_, _≤_, _<_}
+use native.Mathlib.Nat.{sub-zero, le-of-suc-le-suc, not-suc-le-zero}
+use native.Mathlib.Omega.{arith}
+use lib.ListN.{length, take}
+use lib.Seq.{take-all}
+use Rattle.text.specs.Cells.{Cell, cell, cells, bytes, cellsOf}
+use Rattle.text.proofs.Writing.{cells-short}
+use Rattle.text.proofs.Clearing.{cells-bytes}
+use Rattle.marks.specs.Marks as Marks
+use Rattle.marks.specs.Marks.{Items, end, text, gone, mark, Written, start, write, marks, merge, no-kinds, items}
+use Rattle.marks.specs.Flat.{view, within, flatMarks, flats, flatAt, slotsAt, held, slotAt, kindsOf, Fresh, Held, Itemed}
+use Rattle.marks.specs.Spans.{marksIn, Writes, Slot, SlotWritten}
+use Rattle.marks.proofs.Pieces.{cells-long}
+use Rattle.marks.proofs.Flattening.{bare, view-marks, fresh-view, written-view}
+
+marks-bare : (t : Items) → marksIn (bare t) ≡ marksIn t
+unfolding bare marksIn
+marks-bare end = refl
+marks-bare (text p t) = marks-bare t
+marks-bare (gone s t) = marks-bare t
+marks-bare (mark k s a t) = omega (arith, marks-bare a, marks-bare t)
+
+cells-take : (bs ns : List ℕ) → cells bs ns ≡ cells bs (take (length bs) ns)
+unfolding cells
+cells-take [] ns = refl
+cells-take (b ∷ bs) [] = refl
+cells-take (b ∷ bs) (x ∷ ns) = ap (λ (l : List Cell). cell b x ∷ l) (cells-take bs ns)
+
+bytes-cells : (bs ns : List ℕ) → length bs ≤ length ns → bytes (cells bs ns) ≡ bs
+bytes-cells bs ns h = let l = cells-short bs ns in ap bytes (sym (take-all (length bs) (cells bs ns) l)) ∙ cells-bytes (length bs) bs ns (omega arith) h ∙ take-all (length bs) bs (omega arith)
+
+module _ (src ns₁ ns₂ : List ℕ) (k : ℕ) (small : length src ≤ 262144) (room : 4 * length src + 4 ≤ length ns₂) (numbered : cells src ns₁ ≡ cellsOf src) (t : Itemed src ns₁ ns₂ k) where
+  source : cells src ns₂ ≡ cellsOf src
+  source = cells-take src ns₂ ∙ ap (cells src) (t .source) ∙ sym (cells-take src ns₁) ∙ numbered
+
+  slot : slotAt src ns₂ k 0 ≡ view (flatMarks (cellsOf src))
+  unfolding slotsAt held
+  slot = rw (sub-zero k) (ap view (t .items (cells src ns₂) (bytes-cells src ns₂ (omega arith)))) ∙ ap (λ (x : List Cell). view (flatMarks x)) source
+
+  pub pass-slot : (out org ss : List ℕ) → length out ≤ 16777216 → length out ≤ length org → 2 * marksIn (merge no-kinds (items (cellsOf src))) ≤ length ss → Slot src ns₂ k 0 0 out org ss 0
+  unfolding kindsOf
+  pass-slot out org ss a b c =
+      let m : marksIn (within (slotAt src ns₂ k 0)) ≡ marksIn (merge no-kinds (items (cellsOf src))) = rw (slot, view-marks (cellsOf src)) (marks-bare (merge no-kinds (items (cellsOf src)))) in
+      record {
+        table = record { small = small; room = room; few = t .few; bounded = t .bounded };
+        up-to = omega arith;
+        small = omega arith;
+        fresh = rw slot (fresh-view (cellsOf src));
+        short = a;
+        wide = b;
+        room = omega arith;
+      }
+
+  pub pass-writes : (v : List Cell) (ss : List ℕ) (v' : List Cell) (to : ℕ) (ss' : List ℕ) (c item : ℕ) → SlotWritten src ns₂ k 0 v 0 ss 0 v' to ss' c item → Writes v 0 ss 0 v' to ss' c (marks (cellsOf src))
+  pass-writes v ss v' to ss' c item w =
+      subst (Writes v 0 ss 0 v' to ss' c) (ap (λ (o : Marks.Slots). write (within o) start) slot ∙ written-view (cellsOf src)) (w .wrote)

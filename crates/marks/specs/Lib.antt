@@ -1,0 +1,4 @@
+pub mod Marks
+pub mod Examples
+pub mod Flat
+pub mod Spans
