@@ -1,0 +1,3 @@
+pub mod QuotesSplit
+pub mod QuotesFit
+pub mod Tagging

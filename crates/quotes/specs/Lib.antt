@@ -1,0 +1,5 @@
+pub mod Tags
+pub mod Quotes
+pub mod Masks
+pub mod Lines
+pub mod Examples

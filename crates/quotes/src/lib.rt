@@ -1,0 +1,2 @@
+// Quotes: blocks, captions, losses and their lines.
+pub mod tag;
