@@ -1,3 +1,6 @@
 pub mod QuotesSplit
 pub mod QuotesFit
 pub mod Tagging
+pub mod Reading
+pub mod Depths
+pub mod Blocks

@@ -7,11 +7,12 @@
 --   quotes x           the text that the pass writes
 --   quotesNeed x       document 01's need: the greatest number of bytes of all open contents together after any step
 -- Assumes nothing.
+use mathlib.Core.Path.{_≡_}
 use Prim.Native.Nat.{ℕ, zero, suc, _+_, _-_, max}
 use mathlib.Core.Bool.{Bool, true, false, cond, _||_}
 use mathlib.Core.List.{List, [], _∷_, _++_, map}
-use lib.ListN.{length, take}
-use lib.Dec.{leb}
+use lib.ListN.{length, take, drop}
+use lib.Dec.{leb, ltb}
 use Rattle.text.specs.Ascii.{ascii}
 use Rattle.text.specs.Cells.{Cell, written, feed, bytes}
 use Rattle.text.specs.Lines.{trim, allBlank, lines, joined}
@@ -77,6 +78,14 @@ tooDeepFrom depth (closes tag ∷ r) = tooDeepFrom (depth - 1) r
 
 unfoldable pub tooDeep : List Cell → Bool
 tooDeep x = tooDeepFrom 0 (tokens 0 x)
+
+-- behind a token of the bytes s, from place i with so many quotes open to place i'; more than 64 where the token is one opener too many
+pub record DepthBehind (s : List ℕ) (i depth i' depth' : ℕ) : Type 0 where
+  pub same : (x : List Cell) → bytes x ≡ s → tooDeepFrom depth (tokens 0 (drop i x)) ≡ cond (ltb quotesMost depth') true (tooDeepFrom depth' (tokens 0 (drop i' x)))
+
+-- of every text with the bytes s
+abbrev pub TooDeep : List ℕ → Bool → Type 0
+TooDeep s r = (x : List Cell) → bytes x ≡ s → tooDeep x ≡ r
 
 -- ---- the block of a quote
 

@@ -4,8 +4,10 @@
 --   openerSize s     `[quote]`, or `[quote` with `=` or space and anything up to `]`
 --   closerSize s     `[/quote]`
 --   attributionOf s  what stands between `=` or space and `]`, where s begins with an opener
+--   NextBracket s i b  the place b of the first `]` from i on, or the end, where it is not before i
 -- Assumes nothing.
-use Prim.Native.Nat.{ℕ, suc, _-_}
+use mathlib.Core.Path.{_≡_}
+use Prim.Native.Nat.{ℕ, suc, _+_, _-_, _≤_}
 use mathlib.Core.Bool.{Bool, true, false, cond, _||_}
 use mathlib.Core.List.{List, [], _∷_}
 use lib.ListN.{length, take, drop}
@@ -37,6 +39,9 @@ closerSize s = tagSize closers s
 
 unfoldable pub attributionOf : List ℕ → List ℕ
 attributionOf s = take (openerSize s - 8) (drop 7 s)
+
+abbrev pub NextBracket : List ℕ → (i b : ℕ) → Type 0
+NextBracket s i b = i ≤ b → b ≡ i + toBracket (drop i s)
 
 -- all of this module, for `unfolding` where a closed text is to be computed
 unfoldable pub computes : Unit {0}

@@ -1,2 +1,4 @@
 // Quotes: blocks, captions, losses and their lines.
+pub mod block;
+pub mod deep;
 pub mod tag;

@@ -6,11 +6,11 @@ ghost use mathlib.Core.Path.{_≡_};
 ghost use Prim.Native.Nat.{_+_, _≤_, _<_};
 ghost use lib.ListN.{length, drop};
 ghost use Rattle.text.specs.Ascii.{toBracket};
-ghost use Rattle.quotes.specs.Tags.{upToBracket, openerSize, closerSize};
+ghost use Rattle.quotes.specs.Tags.{NextBracket, upToBracket, openerSize, closerSize};
 
-// The place of the first `]` from a place on, or the end, where `known` is that place for an earlier one or lies before.
+// The place of the first `]` from a place on, or the end, where `known` is that place or lies before.
 pub fn bracket_from(s: &[u8], at: PostAt, known: PostAt) -> PostAt
-    requires { ⌜ (at .0 ≤ length (now s)) × (at .0 ≤ known .0 → known .0 ≡ at .0 + toBracket (drop (at .0) (now s))) ⌝ }
+    requires { ⌜ (at .0 ≤ length (now s)) × NextBracket (now s) (at .0) (known .0) ⌝ }
     ensures { λ r. ⌜ r .0 ≡ at .0 + toBracket (drop (at .0) (now (s .entry))) ⌝ }
 {
     let i = at.0;
