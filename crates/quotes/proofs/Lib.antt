@@ -4,3 +4,4 @@ pub mod Tagging
 pub mod Reading
 pub mod Depths
 pub mod Blocks
+pub mod Passing

@@ -13,6 +13,7 @@ use Rattle.text.proofs.SplitLaws.{append, keeps-all, takes-all, after, behind, 
 use Rattle.quotes.specs.Tags.{openerSize, closerSize}
 use Rattle.quotes.specs.Quotes.{Token, text, opens, closes, tokenOf, restOf, tokens, takenBy, taken, takenQuotes}
 use Rattle.quotes.specs.Quotes.{quotedLine, quotedLines, captionLine, quoteBlock, Quote, State, start, close, closed, step, finish, run, quotes}
+use Rattle.quotes.specs.Passes.{opening}
 
 -- ---- tokens spell the text
 
@@ -80,24 +81,19 @@ quoteBlock-keeps words x =
 
 -- ---- the machine
 
--- the contents that open quotes stand in, outermost first
-unfoldable pub outers : List Quote → List Cell
-outers [] = []
-outers (q ∷ qs) = outers qs ++ q .outer
-
 -- all open contents
 unfoldable pub open-text : State → List Cell
-unfolding outers
-open-text s = outers (s .opened) ++ s .now
+unfolding opening
+open-text s = opening (s .opened) ++ s .now
 
 module _ (caption : List ℕ → List ℕ) where
-  close-keeps : (q : Quote) (qs : List Quote) (now : List Cell) → Keeps (outers qs ++ close caption q now) (outers (q ∷ qs) ++ now)
-  unfolding outers close
+  close-keeps : (q : Quote) (qs : List Quote) (now : List Cell) → Keeps (opening qs ++ close caption q now) (opening (q ∷ qs) ++ now)
+  unfolding opening close
   close-keeps q qs now =
       rw append-assoc
-      (append (keeps-all (outers qs)) (append (keeps-all (q .outer)) (quoteBlock-keeps (caption (q .attribution)) now)))
+      (append (keeps-all (opening qs)) (append (keeps-all (q .outer)) (quoteBlock-keeps (caption (q .attribution)) now)))
 
-  closed-keeps : (now : List Cell) (qs : List Quote) → Keeps (open-text (closed caption now qs)) (outers qs ++ now)
+  closed-keeps : (now : List Cell) (qs : List Quote) → Keeps (open-text (closed caption now qs)) (opening qs ++ now)
   unfolding open-text closed
   closed-keeps now [] = keeps-all now
   closed-keeps now (q ∷ qs) = close-keeps q qs now
@@ -105,12 +101,12 @@ module _ (caption : List ℕ → List ℕ) where
   step-splits : (k : Token) (s : State) {t i : List Cell} → Split (open-text s) t i
       → Split (open-text (step caption k s)) (t ++ takenBy k) (i ++ spelling k)
   unfolding step open-text spelling takenBy
-  step-splits (text c) s {t} r = rw (append-nil t, ← append-assoc (outers (s .opened)) (s .now) (c ∷ [])) (copying r (c ∷ []))
+  step-splits (text c) s {t} r = rw (append-nil t, ← append-assoc (opening (s .opened)) (s .now) (c ∷ [])) (copying r (c ∷ []))
   step-splits (opens tag a) s r = append r (takes-all tag)
   step-splits (closes tag) s r = after (taking r tag) (closed-keeps (s .now) (s .opened))
 
-  finish-splits : (now : List Cell) (qs : List Quote) {t i : List Cell} → Split (outers qs ++ now) t i → Split (finish caption now qs) t i
-  unfolding finish outers
+  finish-splits : (now : List Cell) (qs : List Quote) {t i : List Cell} → Split (opening qs ++ now) t i → Split (finish caption now qs) t i
+  unfolding finish opening
   finish-splits now [] r = r
   finish-splits now (q ∷ qs) r = finish-splits (close caption q now) qs (after r (close-keeps q qs now))
 
@@ -122,5 +118,5 @@ module _ (caption : List ℕ → List ℕ) where
       (run-splits ks (step caption k s) (step-splits k s r))
 
   pub quotes-splits : (x : List Cell) → Split (quotes caption x) (takenQuotes x) x
-  unfolding quotes takenQuotes open-text outers
+  unfolding quotes takenQuotes open-text opening
   quotes-splits x = rw (tokens-spelled 0 x) at (run-splits (tokens 0 x) start done)

@@ -1,5 +1,6 @@
 pub mod Tags
 pub mod Quotes
+pub mod Passes
 pub mod Masks
 pub mod Lines
 pub mod Examples
