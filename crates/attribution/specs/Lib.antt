@@ -1,0 +1,4 @@
+pub mod Parts
+pub mod Attribution
+pub mod Places
+pub mod Examples
