@@ -1,0 +1,3 @@
+// The caption of an attribution and what it loses: document 01, "Attributions".
+pub mod facts;
+pub mod scan;

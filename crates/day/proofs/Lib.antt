@@ -1,0 +1,5 @@
+pub mod Table
+pub mod March
+pub mod Laws
+pub mod DayNumber
+pub mod DayNumberLaws
