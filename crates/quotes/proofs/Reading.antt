@@ -11,7 +11,7 @@ use lib.Dec.{leb, ltb}
 use borrow.Author.Tests.{lt-ltb, le-ltb, leb-true, leb-false}
 use Rattle.text.specs.Ascii.{begins, toBracket}
 use Rattle.text.specs.Cells.{Cell, bytes, feed}
-use Rattle.quotes.specs.Tags.{upToBracket, beginsAny, tagSize, openers, openerSize, closerSize, attributionOf}
+use Rattle.quotes.specs.Tags.{NextBracket, upToBracket, beginsAny, tagSize, openers, openerSize, closerSize, attributionOf}
 use Rattle.quotes.specs.Quotes.{Token, text, opens, closes, tokenOf, restOf, tokens, tooDeepFrom}
 use Rattle.quotes.proofs.Tagging.{tag-within, bracket-on}
 
@@ -95,6 +95,10 @@ module _ (ws : List (List ℕ)) (s : List ℕ) (i : ℕ) (h : i ≤ length s) {k
       by true true p = omega arith
       by true false p = absurd (n p)
       by false u p = absurd (n p)
+
+  -- the `]` that was kept lies before the place behind a tag
+  pub behind-next : {b : ℕ} (s' : List ℕ) → b ≡ i + toBracket (drop i s) → (k ≡ 0 → ⊥) → NextBracket s' (i + k) b
+  behind-next s' q n le = let t = behind-bracket q n in absurd (omega (arith, t, le))
 
 -- ---- how deep
 

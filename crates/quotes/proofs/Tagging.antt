@@ -2,17 +2,18 @@
 use mathlib.Core.Path.{_≡_, refl, sym, ap, _∙_}
 use Prim.Native.Nat.{ℕ, zero, suc, _+_, _-_, _≤_, _<_}
 use native.Mathlib.Omega.{arith}
+use native.Mathlib.Nat.{le-of-suc-le-suc, not-suc-le-zero}
 use native.Mathlib.Decide.{decLe}
 use native.Mathlib.Numerals.{add-one}
 use mathlib.Core.Bool.{Bool, true, false, cond, _||_}
 use mathlib.Core.List.{List, [], _∷_}
-use lib.ListN.{length, drop, getD, length-drop}
-use lib.Seq.{drop-cons}
+use lib.ListN.{length, take, drop, getD, length-drop}
+use lib.Seq.{drop-cons, drop-drop, take-take, length-take-le}
 use lib.Dec.{eqb, ltb}
 use borrow.Author.Tests.{lt-ltb, le-ltb}
 use Rattle.text.specs.Ascii.{begins, toFirst, toBracket, is}
 use Rattle.text.proofs.Bytes.{first-within}
-use Rattle.quotes.specs.Tags.{upToBracket, beginsAny, tagSize}
+use Rattle.quotes.specs.Tags.{upToBracket, beginsAny, tagSize, openers, openerSize, attributionOf}
 
 -- ---- up to the `]` at b
 
@@ -79,3 +80,32 @@ module _ (ws : List (List ℕ)) (s : List ℕ) where
 pub any-none : (s : List ℕ) → beginsAny [] s ≡ false
 unfolding beginsAny
 any-none s = refl
+
+-- ---- the attribution, by place
+
+-- a part of the first e elements
+part-before : (a n e : ℕ) (xs : List ℕ) → a + n ≤ e → take n (drop a (take e xs)) ≡ take n (drop a xs)
+part-before zero n e xs h = take-take n e xs (omega arith)
+part-before (suc a) n zero xs h = absurd (omega arith)
+part-before (suc a) n (suc e) [] h = refl
+part-before (suc a) n (suc e) (x ∷ xs) h = part-before a n e xs (omega arith)
+
+module _ (xs : List ℕ) (t e k : ℕ) (ht : t ≤ e) (he : e ≤ length xs) (ek : k ≡ openerSize (drop t (take e xs))) where
+  pub opener-within : t + k ≤ e
+  unfolding openerSize
+  opener-within =
+      let l : length (take e xs) ≡ e = length-take-le e xs he in
+      let w = tag-within openers (drop t (take e xs)) in
+      let m : length (drop t (take e xs)) ≡ length (take e xs) - t = length-drop t (take e xs) in
+      omega (arith, w, ek)
+
+  pub attribution-none : k < 9 → [] ≡ attributionOf (drop t (take e xs))
+  unfolding attributionOf
+  attribution-none lt = let z : k - 8 ≡ 0 = omega arith in rw (← ek, z)
+
+  pub attribution-at : 9 ≤ k → take (t + k - 1 - (t + 7)) (drop (t + 7) xs) ≡ attributionOf (drop t (take e xs))
+  unfolding attributionOf
+  attribution-at le =
+      let w = opener-within in
+      let z : t + k - 1 - (t + 7) ≡ k - 8 = omega arith in
+      rw (← ek, z, drop-drop 7 t (take e xs)) (sym (part-before (t + 7) (k - 8) e xs (omega arith)))

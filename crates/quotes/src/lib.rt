@@ -1,4 +1,4 @@
 // Quotes: blocks, captions, losses and their lines.
-pub mod block;
+pub mod content;
 pub mod deep;
 pub mod tag;

@@ -61,3 +61,24 @@ pub fn closer_size(s: &[u8], at: PostAt, bracket: PostAt) -> usize
     }
     0
 }
+
+// The quote tag at a place: the size of an opener, of a closer, and the place of the next `]`.
+pub struct Tag {
+    pub opener: usize,
+    pub closer: usize,
+    pub bracket: PostAt,
+}
+
+pub fn tag_at(s: &[u8], at: PostAt, known: PostAt) -> Tag
+    requires { ⌜ (at .0 ≤ length (now s)) × NextBracket (now s) (at .0) (known .0) ⌝ }
+    ensures { λ r. ⌜ (r .bracket .0 ≡ at .0 + toBracket (drop (at .0) (now (s .entry)))) × ((r .opener ≡ openerSize (drop (at .0) (now (s .entry)))) × (r .closer ≡ closerSize (drop (at .0) (now (s .entry))))) ⌝ }
+{
+    let bracket = bracket_from(s, at, known);
+    let opener = opener_size(s, at, bracket);
+    let closer = closer_size(s, at, bracket);
+    Tag {
+        opener,
+        closer,
+        bracket,
+    }
+}

@@ -8,11 +8,11 @@ use mathlib.Core.List.{map}
 use Rattle.quotes.proofs.Blocks.{moreLines, more-turn, more-end}
 use Rattle.text.proofs.Writing.{Writing, start, more, done, appends-then}
 use Rattle.text.specs.Cells.{cells, part}
-use Rattle.quotes.proofs.block.put_more_lines.Statement.{statement}
-use Rattle.quotes.proofs.block.put_more_lines.Tie as tie
-use Rattle.quotes.proofs.block.put_more_lines.Reads as reads
-use Rattle.quotes.proofs.block.put_more_lines.Lts as lts
-use Rattle.quotes.proofs.block.put_line.Reads as put-line-reads
+use Rattle.quotes.proofs.content.put_more_lines.Statement.{statement}
+use Rattle.quotes.proofs.content.put_more_lines.Tie as tie
+use Rattle.quotes.proofs.content.put_more_lines.Reads as reads
+use Rattle.quotes.proofs.content.put_more_lines.Lts as lts
+use Rattle.quotes.proofs.content.put_line.Reads as put-line-reads
 use Rattle.text.proofs.trim.line_end.Reads as line-end-reads
 use Rattle.text.proofs.write.put_feed.Reads as put-feed-reads
 

@@ -5,12 +5,12 @@ use Prim.Native.Nat.{ℕ, suc, _+_, _-_, _≤_, _<_}
 use mathlib.Core.List.{List, [], _∷_, _++_}
 use lib.ListN.{length, getD}
 use Rattle.quotes.proofs.Blocks.{lines-first, lines-none}
-use Rattle.quotes.proofs.block.put_lines.Statement.{statement}
-use Rattle.quotes.proofs.block.put_lines.Tie as tie
-use Rattle.quotes.proofs.block.put_lines.Reads as reads
-use Rattle.quotes.proofs.block.put_lines.Lts as lts
-use Rattle.quotes.proofs.block.put_line.Reads as put-line-reads
-use Rattle.quotes.proofs.block.put_more_lines.Reads as put-more-lines-reads
+use Rattle.quotes.proofs.content.put_lines.Statement.{statement}
+use Rattle.quotes.proofs.content.put_lines.Tie as tie
+use Rattle.quotes.proofs.content.put_lines.Reads as reads
+use Rattle.quotes.proofs.content.put_lines.Lts as lts
+use Rattle.quotes.proofs.content.put_line.Reads as put-line-reads
+use Rattle.quotes.proofs.content.put_more_lines.Reads as put-more-lines-reads
 use Rattle.text.proofs.trim.line_end.Reads as line-end-reads
 use Rattle.text.proofs.write.put_text.Reads as put-text-reads
 

@@ -1,4 +1,4 @@
-// The block of a quote, written from its content in one pair of slices into another.
+// The content of a quote, written with `> ` on each line from one pair of slices into another.
 use text::PostAt;
 use text::TextAt;
 use text::trim::all_blank;

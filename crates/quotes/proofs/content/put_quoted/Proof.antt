@@ -5,11 +5,11 @@ use Prim.Native.Nat.{ℕ, suc, _+_, _-_, _≤_, _<_}
 use mathlib.Core.List.{List, [], _∷_, _++_}
 use lib.ListN.{length, getD}
 use Rattle.quotes.proofs.Blocks.{quoted-by}
-use Rattle.quotes.proofs.block.put_quoted.Statement.{statement}
-use Rattle.quotes.proofs.block.put_quoted.Tie as tie
-use Rattle.quotes.proofs.block.put_quoted.Reads as reads
-use Rattle.quotes.proofs.block.put_quoted.Lts as lts
-use Rattle.quotes.proofs.block.put_lines.Reads as put-lines-reads
+use Rattle.quotes.proofs.content.put_quoted.Statement.{statement}
+use Rattle.quotes.proofs.content.put_quoted.Tie as tie
+use Rattle.quotes.proofs.content.put_quoted.Reads as reads
+use Rattle.quotes.proofs.content.put_quoted.Lts as lts
+use Rattle.quotes.proofs.content.put_lines.Reads as put-lines-reads
 use Rattle.text.proofs.trim.trim_end.Reads as trim-end-reads
 use Rattle.text.proofs.trim.trim_start.Reads as trim-start-reads
 use Rattle.text.proofs.write.put_text.Reads as put-text-reads

@@ -5,10 +5,10 @@ use Prim.Native.Nat.{ℕ, suc, _+_, _-_, _≤_, _<_}
 use mathlib.Core.List.{List, [], _∷_, _++_}
 use lib.ListN.{length, getD}
 use Rattle.quotes.proofs.Blocks.{line-blank, line-other}
-use Rattle.quotes.proofs.block.put_line.Statement.{statement}
-use Rattle.quotes.proofs.block.put_line.Tie as tie
-use Rattle.quotes.proofs.block.put_line.Reads as reads
-use Rattle.quotes.proofs.block.put_line.Lts as lts
+use Rattle.quotes.proofs.content.put_line.Statement.{statement}
+use Rattle.quotes.proofs.content.put_line.Tie as tie
+use Rattle.quotes.proofs.content.put_line.Reads as reads
+use Rattle.quotes.proofs.content.put_line.Lts as lts
 use Rattle.text.proofs.trim.all_blank.Reads as all-blank-reads
 use Rattle.text.proofs.write.copy.Reads as copy-reads
 use Rattle.text.proofs.write.put_text.Reads as put-text-reads
