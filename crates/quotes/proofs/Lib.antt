@@ -5,3 +5,4 @@ pub mod Reading
 pub mod Depths
 pub mod Blocks
 pub mod Passing
+pub mod Masking

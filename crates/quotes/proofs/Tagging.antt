@@ -109,3 +109,11 @@ module _ (xs : List ℕ) (t e k : ℕ) (ht : t ≤ e) (he : e ≤ length xs) (ek
       let w = opener-within in
       let z : t + k - 1 - (t + 7) ≡ k - 8 = omega arith in
       rw (← ek, z, drop-drop 7 t (take e xs)) (sym (part-before (t + 7) (k - 8) e xs (omega arith)))
+
+pub any-last : (w s : List ℕ) {t : Bool} → t ≡ begins w s → beginsAny (w ∷ []) s ≡ t
+unfolding beginsAny
+any-last w s {t} e = rw (← e) (or-none t)
+  where
+    or-none : (b : Bool) → (b || false) ≡ b
+    or-none true = refl
+    or-none false = refl
