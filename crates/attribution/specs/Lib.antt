@@ -2,4 +2,5 @@ pub mod Parts
 pub mod Attribution
 pub mod Places
 pub mod Reads
+pub mod Lists
 pub mod Examples
