@@ -12,10 +12,12 @@ use lib.ListN.{length, take, drop}
 use lib.Dec.{eqb, ltb}
 use Rattle.attribution.specs.declared.facts.Field.{Field}
 use Rattle.attribution.specs.declared.facts.Fields.{Fields}
+use Rattle.attribution.specs.declared.facts.Ends.{Ends}
 use Rattle.attribution.specs.declared.loss.Group.{Group}
 use Rattle.attribution.specs.Parts.{Part, parts}
-use Rattle.attribution.specs.Attribution.{Loss, lossOf, cutLast, runWords, lossesFrom, suffix, isUsed}
+use Rattle.attribution.specs.Attribution.{Loss, lossOf, cutLast, runWords, lossesFrom, suffix, isUsed, leading, isDay}
 use Rattle.attribution.specs.Places.{Stands}
+use Rattle.attribution.specs.Reads.{FieldsAt, EndsAt}
 
 pub record Puts (v : List ℕ) (at : ℕ) (v' : List ℕ) (at' : ℕ) (t : List ℕ) : Type 0 where
   pub size : length v' ≡ length v
@@ -65,6 +67,19 @@ lossesAt s run i at = lossesFrom (parts 0 s) i run (cutLast (length (suffix (par
 
 unfoldable pub runAt : (s : List ℕ) (at : ℕ) → List ℕ
 runAt s at = runWords (cutLast (length (suffix (parts 0 s))) (parts 0 (drop at s)))
+
+-- what has been read off the attribution
+pub record Told (s : List ℕ) (f : Fields) (day : Bool) (e : Ends) : Type 0 where
+  pub fields : FieldsAt s f
+  pub seconds : day ≡ isDay (parts 0 s)
+  pub ends : EndsAt s e
+
+-- part i, which is none before the leading id's end, begins at `at`; the bytes put from `to` on stay below 2^32
+pub record Here (s : List ℕ) (i at to : ℕ) : Type 0 where
+  pub stands : Stands s i at
+  pub lead : leading (parts 0 s) ≤ i
+  pub slow : i ≤ at
+  pub room : to + 2 * length s ≤ 4294967295 + 2 * at
 
 -- the bytes of the rest of a run have been put
 pub record Ran (s : List ℕ) (i at : ℕ) (bs : List ℕ) (to : ℕ) (bs' : List ℕ) (g : Group) : Type 0 where

@@ -2,7 +2,6 @@
 use crate::facts::Ends;
 use crate::facts::Field;
 use crate::facts::Fields;
-use crate::scan::Place;
 use crate::scan::scan_at;
 ghost use mathlib.Core.Path.{_≡_};
 ghost use mathlib.Core.Bool.{Bool, not, _&&_};
@@ -14,7 +13,7 @@ ghost use Rattle.attribution.specs.Parts.{parts};
 ghost use Rattle.attribution.specs.Attribution.{leading, isDay};
 ghost use Rattle.attribution.specs.Places.{bytes, Stands, Scanned};
 ghost use Rattle.attribution.specs.Reads.{FieldsAt, LeadAt, EndsAt};
-ghost use Rattle.attribution.specs.Lists.{Puts, recordOf, cutSize, isAt, usedBy, Ran, Grouped};
+ghost use Rattle.attribution.specs.Lists.{Puts, recordOf, cutSize, isAt, usedBy, Here, Told, Ran, Grouped};
 
 // How many losses there are, and how many bytes their fields have.
 pub struct Counts {
@@ -163,7 +162,7 @@ fn is_used(f: Fields, day: bool, i: usize) -> bool
 }
 
 fn cut_size(size: usize, i: usize, ends: Ends) -> usize
-    requires { ⌜ i < 4294967296 ⌝ }
+    requires { ⌜ i < 18446744073709551615 ⌝ }
     ensures { λ r. ⌜ r ≡ cutSize size i (ends .end) (ends .cut) ⌝ }
 {
     if i + 1 == ends.end {
@@ -175,11 +174,96 @@ fn cut_size(size: usize, i: usize, ends: Ends) -> usize
     size
 }
 
-fn is_run(p: Place) -> bool
-    ensures { λ r. ⌜ r ≡ (eqb (p .keylen) 0 && eqb (p .from) (p .key)) ⌝ }
+// Puts the rest of a run, from part i on, each text behind a space.
+fn put_run(s: &[u8], start: usize, first: usize, ends: Ends, buf: &mut [u8], before: usize) -> Group
+    requires { ⌜ EndsAt (now s) ends × Here (now s) first start before ⌝ }
+    ensures { λ r. ⌜ Ran (now (s .entry)) first start (now (buf .entry)) before (now (buf .exit)) r ⌝ }
 {
-    if p.keylen == 0 {
-        return p.from == p.key;
+    let mut at = start;
+    let mut i = first;
+    let mut to = before;
+    while at < s.len() {
+        let p = scan_at(s, at);
+        if p.keylen != 0 {
+            return Group {
+                unnamed: 1,
+                to: to,
+                index: i,
+                at: at,
+            };
+        }
+        if p.from != p.key {
+            return Group {
+                unnamed: 1,
+                to: to,
+                index: i,
+                at: at,
+            };
+        }
+        let size = cut_size(p.size, i, ends);
+        let e = put_byte(buf, to, b' ');
+        to = put_bytes(s, p.from, size, buf, e);
+        i += 1;
+        at = p.next;
     }
-    false
+    Group {
+        unnamed: 1,
+        to: to,
+        index: i,
+        at: at,
+    }
+}
+
+// Puts the bytes of the loss that part i makes, if any: of a field, of a quoted text, or of the run that begins there.
+fn put_group(
+    s: &[u8],
+    at: usize,
+    i: usize,
+    fields: Fields,
+    day: bool,
+    ends: Ends,
+    buf: &mut [u8],
+    to: usize,
+) -> Group
+    requires { ⌜ (at < length (now s)) × (Told (now s) fields day ends × Here (now s) i at to) ⌝ }
+    ensures { λ r. ⌜ Grouped (now (s .entry)) i at (now (buf .entry)) to (now (buf .exit)) r ⌝ }
+{
+    let p = scan_at(s, at);
+    if p.keylen != 0 {
+        if is_used(fields, day, i) {
+            return Group {
+                unnamed: 0,
+                to: to,
+                index: i + 1,
+                at: p.next,
+            };
+        }
+        let e = put_bytes(s, p.key, p.keylen, buf, to);
+        return Group {
+            unnamed: 0,
+            to: e,
+            index: i + 1,
+            at: p.next,
+        };
+    }
+    let name = fields.name;
+    if name.size == 0 {
+        return Group {
+            unnamed: 0,
+            to: to,
+            index: i + 1,
+            at: p.next,
+        };
+    }
+    let size = cut_size(p.size, i, ends);
+    let e = put_bytes(s, p.from, size, buf, to);
+    if p.from == p.key {
+        return put_run(s, p.next, i + 1, ends, buf, e);
+    }
+    Group {
+        unnamed: 1,
+        to: e,
+        index: i + 1,
+        at: p.next,
+    }
 }
