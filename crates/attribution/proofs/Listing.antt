@@ -126,3 +126,6 @@ lists-one {rs} {rs'} {bs} {bs'} {k} {r} {to} {e} q l u (b ∷ w) small p h =
     let f : eqb (e - to) 0 ≡ false = ne-eqb (e - to) 0 (λ (y : e - to ≡ 0). omega (arith, z)) in
     let p' : Puts rs (5 * k) rs' (5 * r) (q ∷ l ∷ u ∷ to ∷ suc (length w) ∷ []) = puts-as (rw (f, z)) p in
     record { records = rw (flag-back u small) p'; words = rw append-nil h }
+
+pub lists-as : {q l k k' to to' : ℕ} {rs rs' bs bs' : List ℕ} {xs ys : List Loss} → xs ≡ ys → Lists q l rs k bs to rs' k' bs' to' xs → Lists q l rs k bs to rs' k' bs' to' ys
+lists-as e p = rw (← e) p

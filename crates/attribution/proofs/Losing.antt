@@ -1,8 +1,9 @@
 -- Laws of the losses part by part. Assumes nothing.
 use mathlib.Core.Path.{_≡_, refl, sym, ap, _∙_}
-use mathlib.Core.Bool.{Bool, true, false, cond, not, _&&_, _||_}
+use mathlib.Core.Bool.{Bool, true, false, cond, not, _&&_, _||_, true≢false}
 use mathlib.Core.List.{List, [], _∷_, _++_, map, append-nil, append-assoc}
 use Prim.Native.Nat.{ℕ, zero, suc, _+_, _-_, _*_, _≤_, _<_}
+use native.Mathlib.Nat.{add-sub-cancel-left}
 use native.Mathlib.Numerals.{add-one}
 use native.Mathlib.Omega.{arith}
 use native.Mathlib.Decide.{decLe, ℕ-discrete}
@@ -10,22 +11,25 @@ use lib.Dec.{eqb, ltb}
 use lib.ListN.{length, take, drop, drop-of-length-le, length-drop}
 use lib.Seq.{take-take, drop-drop, take-nil}
 use borrow.Author.Tests.{eq-eqb, ne-eqb}
-use Rattle.text.specs.Ascii.{isEmpty}
+use Rattle.text.specs.Ascii.{ascii, isEmpty}
+use Rattle.day.specs.Day.{isSeconds}
 use Rattle.attribution.specs.declared.scan.Place.{Place}
 use Rattle.attribution.specs.declared.facts.Kind.{Kind}
 use Rattle.attribution.specs.declared.facts.Kind.the-variants.{Name, PostId, Id, Date, Time}
 use Rattle.attribution.specs.declared.facts.Field.{Field}
 use Rattle.attribution.specs.declared.facts.Fields.{Fields}
 use Rattle.attribution.specs.declared.facts.Ends.{Ends}
+use Rattle.attribution.specs.declared.facts.Lead.{Lead}
+use Rattle.attribution.specs.declared.loss.Counts.{Counts}
 use Rattle.attribution.specs.declared.loss.Group.{Group}
 use Rattle.attribution.specs.Parts.{Part, field, text, parts}
-use Rattle.attribution.specs.Attribution.{leading, spaced, joined, wordsOf, textsOf, suffix, fieldOf, isDay, Loss, lossOf, cutIf, cutLast, runWords, inRun, isUsed, unnamed, lossAt, lossesFrom}
+use Rattle.attribution.specs.Attribution.{isLeading, partNo, leading, leadingId, spaced, joined, wordsOf, textsOf, suffix, fieldOf, isDay, Loss, lossOf, cutIf, cutLast, runWords, inRun, isUsed, unnamed, lossAt, lossesFrom, passedOver, lossesOf, losses}
 use Rattle.attribution.specs.Places.{bytes, partOf, partWith, Stands, Scanned}
-use Rattle.attribution.specs.Reads.{FieldAt, FieldsAt, EndsAt}
-use Rattle.attribution.specs.Lists.{Puts, cutSize, usedBy, lossesAt, runAt, Told, Here, Ran, Grouped}
+use Rattle.attribution.specs.Reads.{FieldAt, FieldsAt, LeadAt, EndsAt}
+use Rattle.attribution.specs.Lists.{Puts, flag, lossWords, recordOf, recordsOf, cutSize, usedBy, passedBy, passedLoss, lossesAt, runAt, Told, Here, Ran, Grouped, Lists, Listed}
 use Rattle.attribution.proofs.Laws.{scan-on}
 use Rattle.attribution.proofs.Fielding.{length-bytes}
-use Rattle.attribution.proofs.Listing.{puts-none, puts-then, puts-as}
+use Rattle.attribution.proofs.Listing.{puts-none, puts-then, puts-as, lists-none, lists-then, lists-one, lists-as}
 
 -- ---- parts behind a place
 
@@ -66,6 +70,10 @@ same-run all i [] e = refl
 same-run all i (field key v ∷ xs) e = refl
 same-run all i (text w true ∷ xs) e = refl
 same-run all i (text w false ∷ xs) e = rw e
+
+pub empty-words : (x : List ℕ) (n : ℕ) → length x ≡ n → eqb n 0 ≡ isEmpty x
+empty-words [] n e = rw (← e)
+empty-words (b ∷ x) n e = ne-eqb n 0 (λ (z : n ≡ 0). omega (arith, z, e))
 
 -- ---- a part without a split
 
@@ -345,3 +353,154 @@ module _ (s : List ℕ) (i at : ℕ) (bs : List ℕ) (to : ℕ) (h : Here s i at
         slow = omega (arith, h .slow, sc .grows);
         room = omega (arith, q .end, n, w, h .room, sc .grows);
       }
+
+-- ---- all losses
+
+-- the losses from part `first` on, of which those before part i have been listed
+pub record Losing (s : List ℕ) (first start q l : ℕ) (rs : List ℕ) (count : ℕ) (bs : List ℕ) (before i at : ℕ) (rs' : List ℕ) (k : ℕ) (bs' : List ℕ) (to : ℕ) : Type 0 where
+  pub here : Here s i at to
+  pub past : List Loss
+  pub lists : Lists q l rs count bs before rs' k bs' to past
+  pub goal : past ++ lossesAt s false i at ≡ lossesAt s false first start
+  pub count-small : k + first ≤ count + i
+  pub small : to + 2 * start ≤ before + 2 * at
+
+pub lose-start : (s : List ℕ) (first start q l : ℕ) (rs : List ℕ) (count : ℕ) (bs : List ℕ) (before : ℕ) → Here s first start before → Losing s first start q l rs count bs before first start rs count bs before
+lose-start s first start q l rs count bs before h = record {
+  here = h;
+  past = [];
+  lists = lists-none q l rs count bs before;
+  goal = refl;
+  count-small = omega arith;
+  small = omega arith;
+}
+
+module _ (s : List ℕ) (first start q l : ℕ) (rs : List ℕ) (count : ℕ) (bs : List ℕ) (before i at : ℕ) (rs' : List ℕ) (k : ℕ) (bs' : List ℕ) (to : ℕ) (r : Losing s first start q l rs count bs before i at rs' k bs' to) where
+  pub lose-turn : (rs₁ bs₁ : List ℕ) (g : Group) (n : ℕ) → Grouped s i at bs' to bs₁ g
+      → Puts rs' (5 * k) rs₁ (5 * n) (recordOf q l (g .unnamed) to (g .to - to)) × ((k ≤ n) × (n ≤ k + 1)) → Losing s first start q l rs count bs before (g .index) (g .at) rs₁ n bs₁ (g .to)
+  lose-turn rs₁ bs₁ g n h p = record {
+    here = record {
+      stands = h .stands;
+      lead = omega (arith, r .here .lead, h .index);
+      slow = omega (arith, r .here .slow, h .slow);
+      room = omega (arith, r .here .room, h .small);
+    };
+    past = r .past ++ lossOf (eqb (g .unnamed) 1) (h .words);
+    lists = lists-then (r .lists) (lists-one q l (g .unnamed) (h .words) (h .unnamed) (p .0) (h .puts));
+    goal = append-assoc (r .past) (lossOf (eqb (g .unnamed) 1) (h .words)) (lossesAt s false (g .index) (g .at)) ∙ ap (λ (x : List Loss). r .past ++ x) (sym (h .rest)) ∙ r .goal;
+    count-small = omega (arith, r .count-small, p .1 .1, h .index);
+    small = omega (arith, r .small, h .small);
+  }
+
+  pub lose-end : length s ≤ at → Listed s first start q l rs count bs before rs' bs' (record { losses = k; bytes = to })
+  unfolding lossesAt lossesFrom cutLast parts
+  lose-end le =
+      let z : lossesAt s false i at ≡ [] = rw (drop-of-length-le s {i = at} le) in
+      let e : r .past ≡ lossesAt s false first start = sym (append-nil (r .past)) ∙ ap (λ (x : List Loss). r .past ++ x) (sym z) ∙ r .goal in
+      record {
+        lists = lists-as e (r .lists);
+        losses = omega (arith, r .count-small, r .here .slow, r .here .stands .inside);
+        small = omega (arith, r .small, r .here .stands .inside);
+      }
+
+-- ---- a leading id that an id field passes over
+
+passed-is : (s : List ℕ) (d : Lead) (f : Fields) → LeadAt s d → FieldsAt s f → passedLoss (passedBy d f) ≡ passedOver (parts 0 s)
+unfolding passedBy passedOver
+passed-is s d f ld fs =
+    let n = length-bytes s (d .from) (d .size) (ld .inside) in
+    rw (empty-is s PostId (f .post) (fs .post), empty-is s Id (f .id) (fs .id), ← empty-words (leadingId (parts 0 s)) (d .size) (sym (ap length (ld .words)) ∙ n)) (by (eqb (d .size) 0 || (isEmpty (fieldOf PostId (parts 0 s)) && isEmpty (fieldOf Id (parts 0 s)))))
+  where
+    by : (t : Bool) → passedLoss (not t) ≡ cond t [] (lossOf false (ascii "id"))
+    by true = refl
+    by false = refl
+
+-- it takes a part
+passed-counts : (s : List ℕ) (d : Lead) (f : Fields) → LeadAt s d → passedBy d f ≡ true → d .count ≡ 1
+unfolding passedBy leading leadingId
+passed-counts s d f ld e = ld .count ∙ by (isLeading (partNo 0 (parts 0 s))) refl
+  where
+    some : d .size ≡ 0 → ⊥
+    some z = true≢false (sym e ∙ rw z)
+
+    by : (t : Bool) → isLeading (partNo 0 (parts 0 s)) ≡ t → _≡_ {A = ℕ} (cond t 1 0) 1
+    by true p = refl
+    by false p = absurd (some (let n = length-bytes s (d .from) (d .size) (ld .inside) in sym n ∙ ap length (ld .words) ∙ rw p))
+
+passed-length : (t : Bool) → length (passedLoss t) ≡ flag t
+passed-length true = refl
+passed-length false = refl
+
+passed-words : (t : Bool) → length (lossWords (passedLoss t)) ≡ 2 * flag t
+unfolding lossWords
+passed-words true = refl
+passed-words false = refl
+
+module _ (passed : Bool) where
+  pub one-passed : passed ≡ true → (q l : ℕ) (rs : List ℕ) (k : ℕ) (bs : List ℕ) (to : ℕ) (rs' : List ℕ) (n : ℕ) (bs' : List ℕ) (e : ℕ)
+      → Puts rs (5 * k) rs' (5 * n) (recordOf q l 0 to (e - to)) → Puts bs to bs' e (bytes (ascii "id") 0 2) → Lists q l rs k bs to rs' n bs' e (passedLoss passed)
+  unfolding bytes
+  one-passed p q l rs k bs to rs' n bs' e r w = rw p (lists-one q l 0 (ascii "id") (omega arith) r w)
+
+  pub none-passed : passed ≡ false → (q l : ℕ) (rs : List ℕ) (k : ℕ) (bs : List ℕ) (to : ℕ) → Lists q l rs k bs to rs k bs to (passedLoss passed)
+  none-passed p q l rs k bs to = rw p (lists-none q l rs k bs to)
+
+pub day-is : (s : List ℕ) (f : Field) → FieldAt s Time f → isSeconds (take (f .from + f .size - f .from) (drop (f .from) s)) ≡ isDay (parts 0 s)
+unfolding bytes
+day-is s f h = rw (add-sub-cancel-left (f .from) (f .size)) (ap isSeconds (h .words))
+
+-- ---- the whole
+
+records-length : (q l to : ℕ) (xs : List Loss) → length (recordsOf q l to xs) ≡ 5 * length xs
+unfolding recordsOf
+records-length q l to [] = refl
+records-length q l to (x ∷ xs) = let n = records-length q l (to + length (x .words)) xs in omega (arith, n)
+
+-- how many have been listed
+pub listed-counts : {q l k k' to to' : ℕ} {rs rs' bs bs' : List ℕ} (xs : List Loss) → Lists q l rs k bs to rs' k' bs' to' xs → (k' ≡ k + length xs) × (to' ≡ to + length (lossWords xs))
+listed-counts {q} {l} {k} {k'} {to} {to'} xs h =
+    let n = records-length q l to xs in
+    let e = h .records .end in
+    (omega (arith, n, e), h .words .end)
+
+flag-within : (s : List ℕ) (d : Lead) (f : Fields) → LeadAt s d → flag (passedBy d f) ≤ d .count
+flag-within s d f ld = by (passedBy d f) refl
+  where
+    by : (t : Bool) → passedBy d f ≡ t → flag t ≤ d .count
+    by true p = let n = passed-counts s d f ld p in omega (arith, n)
+    by false p = omega arith
+
+module _ (s : List ℕ) (d : Lead) (f : Fields) (ld : LeadAt s d) (fs : FieldsAt s f) (passed : Bool) (ps : passed ≡ passedBy d f)
+    (q l k to : ℕ) (rs bs rs₁ bs₁ : List ℕ) (c : Counts) (h : Lists q l rs k bs to rs₁ (c .losses) bs₁ (c .bytes) (passedLoss passed)) where
+  start-counts : (c .losses ≡ k + flag passed) × (c .bytes ≡ to + 2 * flag passed)
+  start-counts =
+      let n = listed-counts (passedLoss passed) h in
+      let a = passed-length passed in
+      let b = passed-words passed in
+      (omega (arith, n .0, a), omega (arith, n .1, b))
+
+  flag-small : (flag passed ≤ d .count) × (flag passed ≤ 1)
+  flag-small = (rw ps (flag-within s d f ld), by passed)
+    where
+      by : (t : Bool) → flag t ≤ 1
+      by true = omega arith
+      by false = omega arith
+
+  pub groups-room : k + length s < 4294967295 → to + 2 * length s ≤ 4294967280 → (c .losses + length s < 4294967296) × Here s (d .count) (d .next) (c .bytes)
+  groups-room a b =
+      let n = start-counts in
+      let m = flag-small in
+      (omega (arith, n .0, m .1), record { stands = ld .stands; lead = omega (arith, ld .count); slow = ld .slow; room = omega (arith, n .1, m .1) })
+
+  losses-are : passedLoss passed ++ lossesAt s false (d .count) (d .next) ≡ losses s
+  unfolding losses lossesOf lossesAt
+  losses-are =
+      let z : drop (leading (parts 0 s)) (parts 0 s) ≡ parts 0 (drop (d .next) s) = ap (λ (n : ℕ). drop n (parts 0 s)) (sym (ld .count)) ∙ ld .stands .rest in
+      rw (ps, passed-is s d f ld fs, ld .count, z)
+
+  pub all-listed : (rs₂ bs₂ : List ℕ) (r : Counts) → Listed s (d .count) (d .next) q l rs₁ (c .losses) bs₁ (c .bytes) rs₂ bs₂ r
+      → Lists q l rs k bs to rs₂ (r .losses) bs₂ (r .bytes) (losses s) × ((r .losses ≤ k + length s) × (r .bytes ≤ to + 2 * length s))
+  all-listed rs₂ bs₂ r g =
+      let n = start-counts in
+      let m = flag-small in
+      (lists-as losses-are (lists-then h (g .lists)), (omega (arith, n .0, m .0, g .losses), omega (arith, n .1, m .0, ld .slow, g .small)))

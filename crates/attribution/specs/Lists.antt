@@ -10,10 +10,13 @@ use mathlib.Core.Bool.{Bool, true, false, cond, not, _&&_, _||_}
 use mathlib.Core.List.{List, [], _∷_, _++_}
 use lib.ListN.{length, take, drop}
 use lib.Dec.{eqb, ltb}
+use Rattle.text.specs.Ascii.{ascii}
 use Rattle.attribution.specs.declared.facts.Field.{Field}
 use Rattle.attribution.specs.declared.facts.Fields.{Fields}
 use Rattle.attribution.specs.declared.facts.Ends.{Ends}
+use Rattle.attribution.specs.declared.facts.Lead.{Lead}
 use Rattle.attribution.specs.declared.loss.Group.{Group}
+use Rattle.attribution.specs.declared.loss.Counts.{Counts}
 use Rattle.attribution.specs.Parts.{Part, parts}
 use Rattle.attribution.specs.Attribution.{Loss, lossOf, cutLast, runWords, lossesFrom, suffix, isUsed, leading, isDay}
 use Rattle.attribution.specs.Places.{Stands}
@@ -61,6 +64,13 @@ usedBy f day i =
     || ((isAt (f .id) i && eqb (f .post .size) 0)
     || (isAt (f .date) i && not day))))
 
+-- an id field passes over a leading id
+unfoldable pub passedBy : Lead → Fields → Bool
+passedBy l f = not (eqb (l .size) 0 || (eqb (f .post .size) 0 && eqb (f .id .size) 0))
+
+abbrev pub passedLoss : Bool → List Loss
+passedLoss passed = cond passed (lossOf false (ascii "id")) []
+
 -- the losses from part i on, where the parts from `at` on are to be read
 unfoldable pub lossesAt : (s : List ℕ) (run : Bool) (i at : ℕ) → List Loss
 lossesAt s run i at = lossesFrom (parts 0 s) i run (cutLast (length (suffix (parts 0 s))) (parts 0 (drop at s)))
@@ -100,6 +110,12 @@ pub record Grouped (s : List ℕ) (i at : ℕ) (bs : List ℕ) (to : ℕ) (bs' :
   pub unnamed : g .unnamed ≤ 1
   pub stands : Stands s (g .index) (g .at)
   pub grows : at < g .at
-  pub index : i ≤ g .index
+  pub index : i < g .index
   pub slow : g .index + at ≤ i + g .at
   pub small : g .to + 2 * at ≤ to + 2 * g .at
+
+-- the losses from part i on have been listed
+pub record Listed (s : List ℕ) (i at q l : ℕ) (rs : List ℕ) (k : ℕ) (bs : List ℕ) (to : ℕ) (rs' bs' : List ℕ) (c : Counts) : Type 0 where
+  pub lists : Lists q l rs k bs to rs' (c .losses) bs' (c .bytes) (lossesAt s false i at)
+  pub losses : c .losses + i ≤ k + length s
+  pub small : c .bytes + 2 * at ≤ to + 2 * length s

@@ -2,7 +2,12 @@
 use crate::facts::Ends;
 use crate::facts::Field;
 use crate::facts::Fields;
+use crate::facts::Lead;
+use crate::facts::leading_id;
+use crate::facts::read_ends;
+use crate::facts::read_fields;
 use crate::scan::scan_at;
+use day::is_seconds;
 ghost use mathlib.Core.Path.{_≡_};
 ghost use mathlib.Core.Bool.{Bool, not, _&&_};
 ghost use mathlib.Core.List.{List, [], _∷_};
@@ -10,10 +15,11 @@ ghost use Prim.Native.Nat.{_+_, _-_, _*_, _≤_, _<_};
 ghost use lib.ListN.{length};
 ghost use lib.Dec.{eqb};
 ghost use Rattle.attribution.specs.Parts.{parts};
-ghost use Rattle.attribution.specs.Attribution.{leading, isDay};
-ghost use Rattle.attribution.specs.Places.{bytes, Stands, Scanned};
-ghost use Rattle.attribution.specs.Reads.{FieldsAt, LeadAt, EndsAt};
-ghost use Rattle.attribution.specs.Lists.{Puts, recordOf, cutSize, isAt, usedBy, Here, Told, Ran, Grouped};
+ghost use Rattle.attribution.specs.Attribution.{isDay, losses};
+ghost use Rattle.attribution.specs.declared.facts.Kind.the-variants.{Time};
+ghost use Rattle.attribution.specs.Places.{bytes};
+ghost use Rattle.attribution.specs.Reads.{FieldAt, EndsAt};
+ghost use Rattle.attribution.specs.Lists.{Puts, recordOf, cutSize, isAt, usedBy, passedBy, passedLoss, lossWords, Here, Told, Ran, Grouped, Lists, Listed};
 
 // How many losses there are, and how many bytes their fields have.
 pub struct Counts {
@@ -266,4 +272,142 @@ fn put_group(
         index: i + 1,
         at: p.next,
     }
+}
+
+// Lists the losses from part `first` on, which begins at `start`.
+fn put_groups(
+    s: &[u8],
+    start: usize,
+    first: usize,
+    fields: Fields,
+    day: bool,
+    ends: Ends,
+    quote: u32,
+    line: u32,
+    records: &mut [u32],
+    count: usize,
+    loss_bytes: &mut [u8],
+    before: usize,
+) -> Counts
+    requires { ⌜ (count + length (now s) < 4294967296) × (Told (now s) fields day ends × Here (now s) first start before) ⌝ }
+    ensures { λ r. ⌜ Listed (now (s .entry)) first start quote line (now (records .entry)) count (now («loss_bytes» .entry)) before (now (records .exit)) (now («loss_bytes» .exit)) r ⌝ }
+{
+    let mut at = start;
+    let mut i = first;
+    let mut k = count;
+    let mut to = before;
+    while at < s.len() {
+        let g = put_group(s, at, i, fields, day, ends, loss_bytes, to);
+        k = close_loss(records, k, quote, line, g.unnamed, to, g.to);
+        to = g.to;
+        i = g.index;
+        at = g.at;
+    }
+    Counts {
+        losses: k,
+        bytes: to,
+    }
+}
+
+// Whether an id field passes over a leading id.
+fn is_passed(lead: Lead, fields: Fields) -> bool
+    ensures { λ r. ⌜ r ≡ passedBy lead fields ⌝ }
+{
+    if lead.size == 0 {
+        return false;
+    }
+    let post = fields.post;
+    if post.size == 0 {
+        let id = fields.id;
+        return id.size != 0;
+    }
+    true
+}
+
+// Lists a leading id that an id field passes over.
+fn put_passed(
+    passed: bool,
+    quote: u32,
+    line: u32,
+    records: &mut [u32],
+    k: usize,
+    loss_bytes: &mut [u8],
+    at: usize,
+) -> Counts
+    requires { ⌜ (k < 4294967295) × (at < 4294967290) ⌝ }
+    ensures { λ r. ⌜ Lists quote line (now (records .entry)) k (now («loss_bytes» .entry)) at (now (records .exit)) (r .losses) (now («loss_bytes» .exit)) (r .bytes) (passedLoss passed) ⌝ }
+{
+    if passed {
+        let e = put_bytes(b"id", 0, 2, loss_bytes, at);
+        let n = close_loss(records, k, quote, line, 0, at, e);
+        return Counts {
+            losses: n,
+            bytes: e,
+        };
+    }
+    Counts {
+        losses: k,
+        bytes: at,
+    }
+}
+
+pub fn is_day(s: &[u8], time: Field) -> bool
+    requires { ⌜ FieldAt (now s) Time time ⌝ }
+    ensures { λ r. ⌜ r ≡ isDay (parts 0 (now (s .entry))) ⌝ }
+{
+    let from = time.from;
+    let end = from + time.size;
+    is_seconds(&s[from..end])
+}
+
+// Lists the losses of an attribution: records from number k on, and their bytes from `at` on. What does not fit is counted, not written.
+pub fn put_losses(
+    attribution: &[u8],
+    quote: u32,
+    line: u32,
+    records: &mut [u32],
+    k: usize,
+    loss_bytes: &mut [u8],
+    at: usize,
+) -> Counts
+    requires { ⌜ (length (now attribution) ≤ 1073741824) × ((k + length (now attribution) < 4294967295) × (at + 2 * length (now attribution) ≤ 4294967280)) ⌝ }
+    ensures { λ r. ⌜ Lists quote line (now (records .entry)) k (now («loss_bytes» .entry)) at (now (records .exit)) (r .losses) (now («loss_bytes» .exit)) (r .bytes) (losses (now (attribution .entry))) × ((r .losses ≤ k + length (now (attribution .entry))) × (r .bytes ≤ at + 2 * length (now (attribution .entry)))) ⌝ }
+{
+    let fields = read_fields(attribution);
+    let lead = leading_id(attribution);
+    let ends = read_ends(attribution, fields, lead);
+    let day = is_day(attribution, fields.time);
+    let c = put_passed(
+        is_passed(lead, fields),
+        quote,
+        line,
+        records,
+        k,
+        loss_bytes,
+        at,
+    );
+    put_groups(
+        attribution,
+        lead.next,
+        lead.count,
+        fields,
+        day,
+        ends,
+        quote,
+        line,
+        records,
+        c.losses,
+        loss_bytes,
+        c.bytes,
+    )
+}
+
+// How many losses an attribution has, and how many bytes.
+pub fn count_losses(attribution: &[u8]) -> Counts
+    requires { ⌜ length (now attribution) ≤ 1073741824 ⌝ }
+    ensures { λ r. ⌜ (r .losses ≡ length (losses (now (attribution .entry)))) × (r .bytes ≡ length (lossWords (losses (now (attribution .entry))))) ⌝ }
+{
+    let mut records: [u32; 1] = [0; 1];
+    let mut loss_bytes: [u8; 1] = [0; 1];
+    put_losses(attribution, 0, 0, &mut records, 0, &mut loss_bytes, 0)
 }
