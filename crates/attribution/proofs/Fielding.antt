@@ -76,7 +76,7 @@ a-field s p k n = rw (add-sub-cancel-left (p .key) (p .keylen), add-sub-cancel-l
     by zero z = absurd (z refl)
     by (suc m) z = refl
 
-value-of : (s : List ℕ) (p : Place) → valueOf (partOf s p) ≡ bytes s (p .from) (p .size)
+pub value-of : (s : List ℕ) (p : Place) → valueOf (partOf s p) ≡ bytes s (p .from) (p .size)
 unfolding partOf
 value-of s p = by (p .keylen)
   where

@@ -5,13 +5,16 @@ use crate::scan::scan_at;
 use day::all_digits;
 use text::PostAt;
 use text::scan::begins_at;
+use text::scan::is_inside;
 ghost use mathlib.Core.Path.{_≡_};
-ghost use Prim.Native.Nat.{_+_, _≤_};
+ghost use mathlib.Core.List.{[]};
+ghost use Prim.Native.Nat.{_+_, _≤_, _<_};
 ghost use lib.ListN.{length};
 ghost use Rattle.text.specs.Ascii.{spells, digits};
-ghost use Rattle.attribution.specs.Attribution.{isKind, isUsable, counts};
-ghost use Rattle.attribution.specs.Places.{partOf};
-ghost use Rattle.attribution.specs.Reads.{FieldAt, FieldsAt};
+ghost use Rattle.attribution.specs.Attribution.{isKind, isUsable, counts, isLeading, leading, given, toSuffix};
+ghost use Rattle.attribution.specs.Parts.{parts};
+ghost use Rattle.attribution.specs.Places.{partOf, Stands};
+ghost use Rattle.attribution.specs.Reads.{FieldAt, FieldsAt, LeadAt, LastStep, LastAt, EndsAt};
 
 pub enum Kind {
     Name,
@@ -168,4 +171,180 @@ pub fn read_fields(s: &[u8]) -> Fields
         date: date,
         time: time,
     }
+}
+
+// Whether a part is a leading id, where it is the first one.
+fn is_leading(s: &[u8], p: Place) -> bool
+    requires { ⌜ p .from + p .size ≤ length (now s) ⌝ }
+    ensures { λ r. ⌜ r ≡ isLeading (partOf (now (s .entry)) p) ⌝ }
+{
+    if p.keylen == 0 {
+        if p.from == p.key {
+            return false;
+        }
+        let from = p.from;
+        let end = from + p.size;
+        return is_digits(&s[from..end]);
+    }
+    false
+}
+
+pub fn leading_id(s: &[u8]) -> Lead
+    ensures { λ r. ⌜ LeadAt (now (s .entry)) r ⌝ }
+{
+    let at = first_at(s);
+    if at < s.len() {
+        let p = scan_at(s, at);
+        if is_leading(s, p) {
+            return Lead {
+                from: p.from,
+                size: p.size,
+                count: 1,
+                next: p.next,
+            };
+        }
+    }
+    Lead {
+        from: 0,
+        size: 0,
+        count: 0,
+        next: at,
+    }
+}
+
+// The last text, and then the part behind it at the place p, which has the index i.
+fn with_part(s: &[u8], last: Last, p: Place, i: usize) -> Last
+    requires { ⌜ (last .total + p .size < 4294967296) × ((i < 4294967296) × (p .from + p .size ≤ length (now s))) ⌝ }
+    ensures { λ r. ⌜ LastStep (now (s .entry)) last p i r ⌝ }
+{
+    if p.keylen == 0 {
+        if 0 < p.size {
+            if last.total == 0 {
+                return Last {
+                    from: p.from,
+                    size: p.size,
+                    end: i + 1,
+                    total: p.size,
+                };
+            }
+            return Last {
+                from: p.from,
+                size: p.size,
+                end: i + 1,
+                total: last.total + 1 + p.size,
+            };
+        }
+    }
+    last
+}
+
+// The last text that is not empty, from part i on, which begins at `start`.
+fn last_text(s: &[u8], count: usize, start: usize) -> Last
+    requires { ⌜ (length (now s) ≤ 1073741824) × (Stands (now s) count start × (count ≤ start)) ⌝ }
+    ensures { λ r. ⌜ LastAt (now (s .entry)) count r ⌝ }
+{
+    let mut i = count;
+    let mut at = start;
+    let mut last = Last {
+        from: 0,
+        size: 0,
+        end: 0,
+        total: 0,
+    };
+    while at < s.len() {
+        let p = scan_at(s, at);
+        last = with_part(s, last, p, i);
+        i += 1;
+        at = p.next;
+    }
+    last
+}
+
+// Where `;` and one or more digits to the end start; the end where there are none. Read from the end.
+fn suffix_start(s: &[u8]) -> usize
+    ensures { λ r. ⌜ r ≡ toSuffix (now (s .entry)) ⌝ }
+{
+    let mut i = s.len();
+    while 0 < i {
+        let j = i - 1;
+        if is_inside(b'0', b'9', s[j]) {
+            i = j;
+        } else {
+            if s[j] == b';' {
+                if i < s.len() {
+                    return j;
+                }
+                return s.len();
+            }
+            return s.len();
+        }
+    }
+    s.len()
+}
+
+// The split `;digits` of the last text, where no id is given otherwise: at least one byte of the joined texts stands before it.
+fn split_of(s: &[u8], last: Last) -> Ends
+    requires { ⌜ (length (now s) ≤ 1073741824) × (LastAt (now s) (leading (parts 0 (now s))) last × (given (parts 0 (now s)) ≡ [])) ⌝ }
+    ensures { λ r. ⌜ EndsAt (now (s .entry)) r ⌝ }
+{
+    let from = last.from;
+    let end = from + last.size;
+    let start = suffix_start(&s[from..end]);
+    let cut = last.size - start;
+    if 0 < cut {
+        if cut < last.total {
+            return Ends {
+                end: last.end,
+                cut: cut,
+                kept: last.total - cut,
+                from: from + start + 1,
+                size: cut - 1,
+            };
+        }
+    }
+    Ends {
+        end: last.end,
+        cut: 0,
+        kept: last.total,
+        from: 0,
+        size: 0,
+    }
+}
+
+// The split and the caption's id.
+pub fn read_ends(s: &[u8], fields: Fields, lead: Lead) -> Ends
+    requires { ⌜ (length (now s) ≤ 1073741824) × (FieldsAt (now s) fields × LeadAt (now s) lead) ⌝ }
+    ensures { λ r. ⌜ EndsAt (now (s .entry)) r ⌝ }
+{
+    let last = last_text(s, lead.count, lead.next);
+    let post = fields.post;
+    if 0 < post.size {
+        return Ends {
+            end: last.end,
+            cut: 0,
+            kept: last.total,
+            from: post.from,
+            size: post.size,
+        };
+    }
+    let id = fields.id;
+    if 0 < id.size {
+        return Ends {
+            end: last.end,
+            cut: 0,
+            kept: last.total,
+            from: id.from,
+            size: id.size,
+        };
+    }
+    if 0 < lead.size {
+        return Ends {
+            end: last.end,
+            cut: 0,
+            kept: last.total,
+            from: lead.from,
+            size: lead.size,
+        };
+    }
+    split_of(s, last)
 }

@@ -1,3 +1,5 @@
 // The caption of an attribution and what it loses: document 01, "Attributions".
+pub mod caption;
 pub mod facts;
+pub mod loss;
 pub mod scan;
