@@ -13,6 +13,11 @@ use Rattle.quotes.specs.Tags.{computes as tagsCompute}
 use Rattle.quotes.specs.Quotes.{quotes, quotesNeed, tooDeep, takenQuotes, computes as quotesCompute}
 use Rattle.quotes.specs.Masks.{visible, computes as masksCompute}
 use Rattle.quotes.specs.Lines.{linesOf, computes as searchComputes}
+use Rattle.quotes.specs.Losses.{lossRecords, lossBytes, computes as lossesCompute}
+use Rattle.day.specs.Day.{computes as dayComputes}
+use Rattle.attribution.specs.Parts.{computes as partsCompute}
+use Rattle.attribution.specs.Attribution.{caption as attributionCaption, computes as attributionComputes}
+use Rattle.attribution.specs.Lists.{recordsOf, lossWords}
 
 -- ---- texts, with each attribution as its caption
 
@@ -158,3 +163,20 @@ last-tag = refl
 no-tags : Lines "\n[c][quote=a][/c]" (ascii "a" ∷ []) (1 ∷ [])
 unfolding asciiComputes tagsCompute masksCompute searchComputes
 no-tags = refl
+
+-- ---- losses, with the captions of attributions
+
+thread : List ℕ
+thread = ascii "[quote=Ann;7 rank=3]Seed *late*[/quote]\n[quote=name=B x y=1]"
+
+thread-text : bytes (quotes attributionCaption (cellsOf thread)) ≡ ascii "\n\n> Seed *late*\n^ Ann #7\n\n\n\n\n>\n^ B\n\n"
+unfolding thread asciiComputes blanksCompute cellsCompute linesCompute tagsCompute quotesCompute partsCompute attributionComputes dayComputes
+thread-text = refl
+
+thread-records : lossRecords thread (cellsOf thread) ≡ 1 ∷ 1 ∷ 0 ∷ 0 ∷ 4 ∷ 2 ∷ 2 ∷ 1 ∷ 4 ∷ 1 ∷ 2 ∷ 2 ∷ 0 ∷ 5 ∷ 1 ∷ []
+unfolding thread asciiComputes blanksCompute cellsCompute linesCompute tagsCompute quotesCompute masksCompute searchComputes lossesCompute recordsOf lossWords partsCompute attributionComputes dayComputes
+thread-records = refl
+
+thread-bytes : lossBytes (cellsOf thread) ≡ ascii "rankxy"
+unfolding thread asciiComputes blanksCompute cellsCompute linesCompute tagsCompute quotesCompute masksCompute searchComputes lossesCompute recordsOf lossWords partsCompute attributionComputes dayComputes
+thread-bytes = refl

@@ -3,4 +3,5 @@ pub mod Quotes
 pub mod Passes
 pub mod Masks
 pub mod Lines
+pub mod Losses
 pub mod Examples
