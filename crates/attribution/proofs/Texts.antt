@@ -255,7 +255,7 @@ module _ (s : List ℕ) (count i at : ℕ) (l : Last) (g : Reading s count i at 
 
 -- ---- the split and the id
 
-drop-take : (k n : ℕ) (x : List ℕ) → drop k (take n x) ≡ take (n - k) (drop k x)
+pub drop-take : (k n : ℕ) (x : List ℕ) → drop k (take n x) ≡ take (n - k) (drop k x)
 drop-take zero n x = ap (λ (m : ℕ). take m x) (sym (sub-zero n))
 drop-take (suc k) zero x = sym (ap (λ (m : ℕ). take m (drop (suc k) x)) (zero-sub (suc k)))
 drop-take (suc k) (suc n) [] = sym (take-nil (suc n - suc k))
