@@ -1,13 +1,13 @@
 -- Laws of the caption's pieces. Assumes nothing.
 use mathlib.Core.Path.{_≡_, refl, sym, ap, _∙_}
-use mathlib.Core.Bool.{Bool, true, false, cond, not, _&&_}
+use mathlib.Core.Bool.{Bool, true, false, cond, not, _&&_, _||_, true≢false}
 use mathlib.Core.List.{List, [], _∷_, _++_, append-nil, append-assoc}
 use Prim.Native.Nat.{ℕ, zero, suc, _+_, _-_, _≤_, _<_}
 use native.Mathlib.Nat.{add-sub-cancel-left}
 use native.Mathlib.Omega.{arith}
 use lib.Dec.{eqb, ltb}
 use lib.ListN.{length, take, drop, length-append}
-use borrow.Author.Tests.{eq-eqb, ne-eqb}
+use borrow.Author.Tests.{eq-eqb, ne-eqb, lt-ltb}
 use Rattle.text.specs.Ascii.{inside, ascii, isEmpty}
 use Rattle.text.specs.Blanks.{computes as blanksCompute}
 use Rattle.text.specs.Cells.{Cell, cell, sign, written, cellsFrom}
@@ -18,12 +18,17 @@ use Rattle.attribution.specs.declared.facts.Kind.{Kind}
 use Rattle.attribution.specs.declared.facts.Kind.the-variants.{Name, Date, Time}
 use Rattle.attribution.specs.declared.facts.Field.{Field}
 use Rattle.attribution.specs.Parts.{parts}
-use Rattle.attribution.specs.Attribution.{spaced, within, fieldOf, isDay, date}
+use Rattle.attribution.specs.Attribution.{spaced, within, fieldOf, isDay, date, id, name, kept, texts, orElse, captionOf, caption}
 use Rattle.attribution.specs.Reads.{FieldAt}
+use Rattle.attribution.specs.declared.facts.Fields.{Fields}
+use Rattle.attribution.specs.declared.facts.Ends.{Ends}
+use Rattle.attribution.specs.Lists.{Told}
+use Rattle.attribution.proofs.Losing.{empty-is, empty-words}
 use Rattle.attribution.specs.Places.{bytes}
-use Rattle.attribution.specs.Captions.{gap}
+use Rattle.attribution.specs.Captions.{gap, named, nameTexts}
 use Rattle.attribution.proofs.TextLaws.{written-append, written-first}
 use Rattle.attribution.proofs.Fielding.{length-bytes}
+use Rattle.attribution.proofs.Texts.{kept-short}
 
 pub appends-as : {v v' t u : List Cell} {a b : ℕ} → t ≡ u → Appends v a v' b t → Appends v a v' b u
 appends-as e p = rw (← e) p
@@ -190,3 +195,94 @@ an-id s f z le n =
 
 pub day-seconds : (s : List ℕ) (t : Field) → FieldAt s Time t → (b : Bool) → b ≡ isDay (parts 0 s) → b ≡ true → isSeconds (take (t .from + t .size - t .from) (drop (t .from) s)) ≡ true
 day-seconds s t h b e p = ap isSeconds (cut-out s Time t h) ∙ sym e ∙ p
+
+-- ---- pieces with a space between
+
+pub spaced-written : (x y : List ℕ) (l r : Bool) → l ≡ not (isEmpty x) → r ≡ not (isEmpty y) → (written x ++ written (gap l r)) ++ written y ≡ written (spaced x y)
+unfolding gap
+spaced-written [] y l r p q = rw (p, written-none)
+spaced-written (a ∷ x) [] l r p q = rw (p, q, written-none) (append-nil (written (a ∷ x) ++ []) ∙ append-nil (written (a ∷ x)))
+spaced-written (a ∷ x) (b ∷ y) l r p q =
+    rw (p, q) (append-assoc (written (a ∷ x)) (written (32 ∷ [])) (written (b ∷ y))
+    ∙ ap (λ (l : List Cell). written (a ∷ x) ++ l) (ap (λ (l : List Cell). l ++ written (b ∷ y)) (space-is [] ∙ ap (λ (l : List Cell). cell 32 1 ∷ l) written-none) ∙ sym (space-is (b ∷ y)))
+    ∙ sym (written-append (a ∷ x) 32 (b ∷ y) (omega arith)))
+
+some-is : (w : List ℕ) (n : ℕ) → length w ≡ n → ltb 0 n ≡ not (isEmpty w)
+some-is [] n e = rw (← e)
+some-is (b ∷ w) n e = lt-ltb 0 n (omega (arith, e))
+
+spaced-empty : (x y : List ℕ) → isEmpty (spaced x y) ≡ (isEmpty x && isEmpty y)
+spaced-empty [] y = refl
+spaced-empty (a ∷ x) [] = refl
+spaced-empty (a ∷ x) (b ∷ y) = refl
+
+within-empty : (c : ℕ) (x w z : List ℕ) → isEmpty (within (c ∷ x) w z) ≡ isEmpty w
+within-empty c x [] z = refl
+within-empty c x (b ∷ w) z = refl
+
+not-and : (a b : Bool) → not (a && b) ≡ (not a || not b)
+not-and true b = refl
+not-and false b = refl
+
+day-empty : (d t : List ℕ) → isSeconds t ≡ true → isEmpty (dayOf t) ≡ (isEmpty d && isEmpty t)
+unfolding isSeconds dayOf iso
+day-empty d [] p = absurd (true≢false (sym p))
+day-empty [] (b ∷ t) p = refl
+day-empty (a ∷ d) (b ∷ t) p = refl
+
+module _ (s : List ℕ) (f : Fields) (day : Bool) (e : Ends) (t : Told s f day e) where
+  abbrev dateShown : List ℕ
+  dateShown = within (ascii "(") (date (parts 0 s)) (ascii ")")
+
+  abbrev idShown : List ℕ
+  idShown = within (ascii "#") (id (parts 0 s)) []
+
+  dated-empty : isEmpty (date (parts 0 s)) ≡ (eqb (f .date .size) 0 && eqb (f .time .size) 0)
+  unfolding date
+  dated-empty = rw (empty-is s Date (f .date) (t .fields .date), empty-is s Time (f .time) (t .fields .time)) (by (isDay (parts 0 s)) refl)
+    where
+      by : (b : Bool) → isDay (parts 0 s) ≡ b → isEmpty (cond b (dayOf (fieldOf Time (parts 0 s))) (spaced (fieldOf Date (parts 0 s)) (fieldOf Time (parts 0 s)))) ≡ (isEmpty (fieldOf Date (parts 0 s)) && isEmpty (fieldOf Time (parts 0 s)))
+      by true p = day-empty (fieldOf Date (parts 0 s)) (fieldOf Time (parts 0 s)) p
+      by false p = spaced-empty (fieldOf Date (parts 0 s)) (fieldOf Time (parts 0 s))
+
+  pub dated-is : (r : Bool) → r ≡ not (eqb (f .date .size) 0 && eqb (f .time .size) 0) → r ≡ not (isEmpty dateShown)
+  dated-is r p = p ∙ ap not (sym dated-empty ∙ sym (within-empty 40 [] (date (parts 0 s)) (ascii ")")))
+
+  pub id-is : ltb 0 (e .size) ≡ not (isEmpty idShown)
+  id-is =
+      let n = length-bytes s (e .from) (e .size) (t .ends .inside) in
+      some-is (id (parts 0 s)) (e .size) (sym (ap length (t .ends .id)) ∙ n) ∙ ap not (sym (within-empty 35 [] (id (parts 0 s)) []))
+
+  pub more-is : (d r : Bool) → d ≡ not (eqb (f .date .size) 0 && eqb (f .time .size) 0) → r ≡ (d || ltb 0 (e .size)) → r ≡ not (isEmpty (spaced dateShown idShown))
+  more-is d r p q = q ∙ rw (dated-is d p, id-is) (sym (ap not (spaced-empty dateShown idShown) ∙ not-and (isEmpty dateShown) (isEmpty idShown)))
+
+  pub id-shown : written (within (ascii "#") (bytes s (e .from) (e .size)) []) ≡ written idShown
+  id-shown = ap (λ (x : List ℕ). written (within (ascii "#") x [])) (t .ends .id)
+
+  -- ---- the name
+
+  module _ (joined : List ℕ) (j : joined ≡ nameTexts s) where
+    pub kept-within : f .name .size ≡ 0 → e .kept ≤ length joined
+    unfolding nameTexts kept
+    kept-within z =
+        let y : isEmpty (fieldOf Name (parts 0 s)) ≡ true = sym (empty-is s Name (f .name) (t .fields .name)) ∙ rw z in
+        let v : joined ≡ texts (parts 0 s) = j ∙ rw y in
+        let q : length joined ≡ length (texts (parts 0 s)) = ap length v in
+        let k = t .ends .kept in
+        let w = kept-short (parts 0 s) in
+        omega (arith, q, k, w)
+
+    pub name-is : named s joined (f .name .from) (f .name .size) (e .kept) ≡ name (parts 0 s)
+    unfolding named name nameTexts bytes
+    name-is = by (fieldOf Name (parts 0 s)) refl
+      where
+        by : (x : List ℕ) → fieldOf Name (parts 0 s) ≡ x → cond (eqb (f .name .size) 0) (take (e .kept) joined) (take (f .name .size) (drop (f .name .from) s)) ≡ orElse (fieldOf Name (parts 0 s)) (take (kept (parts 0 s)) (texts (parts 0 s)))
+        by [] p = rw (empty-is s Name (f .name) (t .fields .name), p, j, p, t .ends .kept)
+        by (b ∷ x) p = rw (empty-is s Name (f .name) (t .fields .name), p) (t .fields .name .words ∙ p)
+
+    pub caption-is : (w : List ℕ) (d r : Bool) → w ≡ named s joined (f .name .from) (f .name .size) (e .kept) → d ≡ not (eqb (f .date .size) 0 && eqb (f .time .size) 0) → r ≡ (d || ltb 0 (e .size))
+        → (written w ++ written (gap (ltb 0 (length w)) r)) ++ written (spaced dateShown idShown) ≡ written (caption s)
+    unfolding caption captionOf
+    caption-is w d r p q h =
+        spaced-written w (spaced dateShown idShown) (ltb 0 (length w)) r (some-is w (length w) refl) (more-is d r q h)
+        ∙ ap (λ (x : List ℕ). written (spaced x (spaced dateShown idShown))) (p ∙ name-is)

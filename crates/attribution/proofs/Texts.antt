@@ -255,7 +255,7 @@ module _ (s : List ℕ) (count i at : ℕ) (l : Last) (g : Reading s count i at 
 
 -- ---- the split and the id
 
-drop-take : (k n : ℕ) (x : List ℕ) → drop k (take n x) ≡ take (n - k) (drop k x)
+pub drop-take : (k n : ℕ) (x : List ℕ) → drop k (take n x) ≡ take (n - k) (drop k x)
 drop-take zero n x = ap (λ (m : ℕ). take m x) (sym (sub-zero n))
 drop-take (suc k) zero x = sym (ap (λ (m : ℕ). take m (drop (suc k) x)) (zero-sub (suc k)))
 drop-take (suc k) (suc n) [] = sym (take-nil (suc n - suc k))
@@ -427,3 +427,12 @@ module _ (s : List ℕ) (l : Last) (h : LastAt s (leading (parts 0 s)) l) (f : F
 
       pub by-none : d .size ≤ 0 → given (parts 0 s) ≡ []
       by-none z = no-id ∙ sym (ld .words) ∙ empty-bytes s (d .from) (d .size) z
+
+-- what is kept is a part of the texts
+pub kept-short : (ps : List Part) → kept ps ≤ length (texts ps)
+unfolding kept
+kept-short ps = by (isEmpty (given ps) && ltb 0 (toSuffix (texts ps)))
+  where
+    by : (t : Bool) → cond t (toSuffix (texts ps)) (length (texts ps)) ≤ length (texts ps)
+    by true = suffix-within (texts ps)
+    by false = omega arith

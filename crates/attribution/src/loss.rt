@@ -35,7 +35,8 @@ pub struct Group {
     pub at: usize,
 }
 
-fn put_byte(buf: &mut [u8], at: usize, b: u8) -> usize
+// Puts a byte.
+pub fn put_byte(buf: &mut [u8], at: usize, b: u8) -> usize
     requires { ⌜ at < 4294967296 ⌝ }
     ensures { λ r. ⌜ Puts (now (buf .entry)) at (now (buf .exit)) r (b ∷ []) ⌝ }
 {

@@ -15,7 +15,7 @@ use Rattle.attribution.proofs.caption.name.Lts as lts
 
 -- src/lib.rt:31:9
 slice-aggregate-result : tie.Need-slice-aggregate-result
-slice-aggregate-result c = let a = c .before .before .args in sym (length-take-le (a .kept) (a .joined .now) (omega arith))
+slice-aggregate-result c = let a = c .before .before .args in sym (length-take-le (a .kept) (a .joined .now) (c .before .before .pre .1 (c .before .if1 .taken)))
 
 -- src/lib.rt:31:9
 returns : tie.Need-returns
