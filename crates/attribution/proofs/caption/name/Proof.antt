@@ -1,0 +1,58 @@
+use borrow.Author.Needs.{needs}
+use native.Mathlib.Omega.{arith}
+use mathlib.Core.Path.{_≡_, refl, sym, ap, _∙_}
+use Prim.Native.Nat.{ℕ, suc, _+_, _-_, _≤_, _<_}
+use mathlib.Core.List.{List, [], _∷_, _++_}
+use lib.ListN.{length, getD}
+use lib.Seq.{length-take-le}
+use native.Mathlib.Nat.{add-sub-cancel-left}
+use borrow.Author.Tests.{eq-eqb, ne-eqb}
+use Rattle.attribution.specs.Captions.{named}
+use Rattle.attribution.proofs.caption.name.Statement.{statement}
+use Rattle.attribution.proofs.caption.name.Tie as tie
+use Rattle.attribution.proofs.caption.name.Reads as reads
+use Rattle.attribution.proofs.caption.name.Lts as lts
+
+-- src/lib.rt:31:9
+slice-aggregate-result : tie.Need-slice-aggregate-result
+slice-aggregate-result c = let a = c .before .before .args in sym (length-take-le (a .kept) (a .joined .now) (c .before .before .pre .1 (c .before .if1 .taken)))
+
+-- src/lib.rt:31:9
+returns : tie.Need-returns
+unfolding named
+returns c = rw (eq-eqb _ 0 (c .before .if1 .taken))
+
+-- src/lib.rt:33:15
+add-end : tie.Need-add-end
+add-end c = search needs
+
+-- src/lib.rt:34:5
+sub-result : tie.Need-sub-result
+sub-result c = search needs
+
+-- src/lib.rt:34:5
+part-result-start : tie.Need-part-result-start
+part-result-start c = search needs
+
+-- src/lib.rt:34:5
+part-result-end : tie.Need-part-result-end
+part-result-end c = search needs
+
+-- src/lib.rt:26:1
+returns-2 : tie.Need-returns-2
+unfolding named
+returns-2 c =
+    let a = c .before .before .args in
+    rw (ne-eqb (a .size) 0 (c .before .if1 .left), add-sub-cancel-left (a .from) (a .size))
+
+pub name-spec : {M : Type 1} → statement M
+name-spec =
+    tie.close
+    (tie.spec
+    slice-aggregate-result
+    returns
+    add-end
+    sub-result
+    part-result-start
+    part-result-end
+    returns-2)

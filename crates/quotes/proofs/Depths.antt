@@ -1,0 +1,61 @@
+-- Laws of counting open quotes. Assumes nothing.
+use mathlib.Core.Path.{_≡_, refl, sym, ap, _∙_}
+use Prim.Native.Nat.{ℕ, zero, suc, _+_, _-_, _≤_, _<_}
+use native.Mathlib.Omega.{arith}
+use mathlib.Core.Bool.{Bool, true, false, cond}
+use mathlib.Core.List.{List, [], _∷_}
+use lib.ListN.{length, drop}
+use borrow.Author.Tests.{lt-ltb, le-ltb}
+use Rattle.text.specs.Ascii.{toBracket}
+use Rattle.text.specs.Cells.{Cell, bytes}
+use Rattle.quotes.specs.Tags.{NextBracket, openers, closers, openerSize, closerSize}
+use Rattle.quotes.specs.Quotes.{tokens, tooDeepFrom, tooDeep, DepthBehind, TooDeep}
+use Rattle.quotes.proofs.Tagging.{bracket-on}
+use Rattle.quotes.proofs.Reading.{read-opener, read-closer, read-text, read-end, behind-within, behind-bracket, deep-opener, deep-closer, deep-text}
+
+-- ---- one token
+
+abbrev Behind : (s : List ℕ) (i depth i' b depth' : ℕ) → Type 0
+Behind s i depth i' b depth' = ((i < i') × (i' ≤ length s)) × ((NextBracket s i' b × (depth' ≤ 65)) × DepthBehind s i depth i' depth')
+
+module _ (s : List ℕ) (i b d k : ℕ) (lt : i < length s) (eb : b ≡ i + toBracket (drop i s)) (h : d ≤ 64) (ek : k ≡ openerSize (drop i s)) where
+  pub depth-opener : (k ≡ 0 → ⊥) → Behind s i d (i + k) b (d + 1)
+  unfolding openerSize
+  depth-opener n =
+      let w = behind-within openers s i (omega arith) ek in
+      let t = behind-bracket openers s i (omega arith) ek eb n in
+      ((omega arith, w), ((λ le. absurd (omega (arith, t, le)), omega arith), record { same = λ x e. ap (tooDeepFrom d) (read-opener x s e i ek n) ∙ deep-opener d _ _ _ h }))
+
+  module _ (j : ℕ) (z : k ≡ 0) (ej : j ≡ closerSize (drop i s)) where
+    pub depth-closer : (d' : ℕ) → (j ≡ 0 → ⊥) → d' ≡ d - 1 → Behind s i d (i + j) b d'
+    unfolding closerSize
+    depth-closer d' n q =
+        let w = behind-within closers s i (omega arith) ej in
+        let t = behind-bracket closers s i (omega arith) ej eb n in
+        ((omega arith, w), ((λ le. absurd (omega (arith, t, le)), omega arith), record { same = λ x e. ap (tooDeepFrom d) (read-closer x s e i ek z ej n) ∙ deep-closer d _ _ h q }))
+
+    pub depth-text : j ≡ 0 → Behind s i d (i + 1) b d
+    depth-text y =
+        ((omega arith, omega arith), ((λ le. bracket-on s i b (omega arith) eb lt le, omega arith), record { same = λ x e. ap (tooDeepFrom d) (read-text x s e i lt ek z ej y) ∙ deep-text d _ _ h }))
+
+-- ---- all tokens
+
+-- what is left to read from i on decides
+pub record Deepening (s : List ℕ) (i depth : ℕ) : Type 0 where
+  pub same : (x : List Cell) → bytes x ≡ s → tooDeep x ≡ tooDeepFrom depth (tokens 0 (drop i x))
+
+pub deepening : (s : List ℕ) → Deepening s 0 0
+unfolding tooDeep
+deepening s = record { same = λ x e. refl }
+
+module _ {s : List ℕ} {i d : ℕ} (w : Deepening s i d) where
+  pub deep-end : length s ≤ i → TooDeep s false
+  unfolding tooDeepFrom
+  deep-end le x e = w .same x e ∙ ap (tooDeepFrom d) (read-end x s e i le)
+
+  module _ {i' d' : ℕ} (z : DepthBehind s i d i' d') where
+    pub deep-stop : 64 < d' → TooDeep s true
+    deep-stop lt x e = w .same x e ∙ z .same x e ∙ rw (lt-ltb 64 d' lt)
+
+    pub deep-on : d' ≤ 64 → Deepening s i' d'
+    deep-on le = record { same = λ x e. w .same x e ∙ z .same x e ∙ rw (le-ltb 64 d' le) }

@@ -1,0 +1,76 @@
+use borrow.Author.Needs.{needs}
+use native.Mathlib.Omega.{arith}
+use mathlib.Core.Path.{_≡_, refl, sym, ap, _∙_}
+use Prim.Native.Nat.{ℕ, suc, _+_, _-_, _≤_, _<_}
+use mathlib.Core.List.{List, [], _∷_, _++_}
+use lib.ListN.{length, getD}
+use Rattle.quotes.specs.Tags.{openers, closers, openerSize, closerSize}
+use Rattle.quotes.proofs.Reading.{behind-within}
+use Rattle.quotes.proofs.Depths.{depth-opener, depth-closer, depth-text}
+use Rattle.quotes.proofs.deep.depth_behind.Statement.{statement}
+use Rattle.quotes.proofs.deep.depth_behind.Tie as tie
+use Rattle.quotes.proofs.deep.depth_behind.Reads as reads
+use Rattle.quotes.proofs.deep.depth_behind.Lts as lts
+use Rattle.quotes.proofs.tag.bracket_from.Reads as bracket-from-reads
+use Rattle.quotes.proofs.tag.closer_size.Reads as closer-size-reads
+use Rattle.quotes.proofs.tag.opener_size.Reads as opener-size-reads
+
+bracket-from-requires : tie.Need-bracket-from-requires
+bracket-from-requires c κs = search needs
+
+opener-size-requires : tie.Need-opener-size-requires
+opener-size-requires c κs = search needs
+
+add-t11 : tie.Need-add-t11
+unfolding openerSize
+add-t11 c = let a = c .before .before .before .before .before .before in let w = behind-within openers (a .args .s .now) (a .args .from .at .0) (omega arith) (c .before .opener-size .ensures) in omega (arith, w)
+
+add-t13 : tie.Need-add-t13
+add-t13 c = search needs
+
+returns : tie.Need-returns
+returns c = let a = c .before .before .before .before .before .before in depth-opener (a .args .s .now) (a .args .from .at .0) _ _ _ (a .pre .0) (c .before .before .bracket-from .ensures) (a .pre .1 .1) (c .before .opener-size .ensures) (c .if1 .taken)
+
+closer-size-requires : tie.Need-closer-size-requires
+closer-size-requires c κs = search needs
+
+add-t15 : tie.Need-add-t15
+unfolding closerSize
+add-t15 c = let a = c .before .before .before .before .before .before .before .before .before in let w = behind-within closers (a .args .s .now) (a .args .from .at .0) (omega arith) (c .before .before .closer-size .ensures) in omega (arith, w)
+
+returns-2 : tie.Need-returns-2
+returns-2 c = let a = c .before .before .before .before .before .before .before .before .before in depth-closer (a .args .s .now) (a .args .from .at .0) _ _ _ (a .pre .0) (c .before .before .before .before .before .bracket-from .ensures) (a .pre .1 .1) (c .before .before .before .before .opener-size .ensures) _ (c .before .before .before .if1 .left) (c .before .before .closer-size .ensures) _ (c .before .if2 .taken) (omega arith)
+
+add-t17 : tie.Need-add-t17
+unfolding closerSize
+add-t17 c = let a = c .before .before .before .before .before .before .before .before .before in let w = behind-within closers (a .args .s .now) (a .args .from .at .0) (omega arith) (c .before .before .closer-size .ensures) in omega (arith, w)
+
+sub-t19 : tie.Need-sub-t19
+sub-t19 c = search needs
+
+returns-3 : tie.Need-returns-3
+returns-3 c = let a = c .before .before .before .before .before .before .before .before .before in depth-closer (a .args .s .now) (a .args .from .at .0) _ _ _ (a .pre .0) (c .before .before .before .before .before .bracket-from .ensures) (a .pre .1 .1) (c .before .before .before .before .opener-size .ensures) _ (c .before .before .before .if1 .left) (c .before .before .closer-size .ensures) _ (c .before .if2 .taken) refl
+
+add-t20 : tie.Need-add-t20
+add-t20 c = search needs
+
+returns-4 : tie.Need-returns-4
+returns-4 c = let a = c .before .before .before .before .before .before .before .before in depth-text (a .args .s .now) (a .args .from .at .0) _ _ _ (a .pre .0) (c .before .before .before .before .bracket-from .ensures) (a .pre .1 .1) (c .before .before .before .opener-size .ensures) _ (c .before .before .if1 .left) (c .before .closer-size .ensures) (c .if2 .left)
+
+pub depth-behind-spec : {M : Type 1} → statement M
+depth-behind-spec =
+    tie.close
+    (tie.spec
+    bracket-from-requires
+    opener-size-requires
+    add-t11
+    add-t13
+    returns
+    closer-size-requires
+    add-t15
+    returns-2
+    add-t17
+    sub-t19
+    returns-3
+    add-t20
+    returns-4)

@@ -1,0 +1,7 @@
+pub mod Tags
+pub mod Quotes
+pub mod Passes
+pub mod Masks
+pub mod Lines
+pub mod Losses
+pub mod Examples

@@ -1,0 +1,5 @@
+// Quotes: blocks, captions, losses and their lines.
+pub mod content;
+pub mod deep;
+pub mod mask;
+pub mod tag;
