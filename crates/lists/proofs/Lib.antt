@@ -1,0 +1,2 @@
+pub mod ListsSplit
+pub mod Needs

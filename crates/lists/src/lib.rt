@@ -1,0 +1,2 @@
+// Lists to Carve text (document 01, "Lists").
+pub mod tag;
