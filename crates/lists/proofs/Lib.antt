@@ -1,2 +1,3 @@
 pub mod ListsSplit
 pub mod Needs
+pub mod Values

@@ -1,4 +1,5 @@
 -- Document 01, "Lists": the tags, and a text as tokens.
+--   valueOf x      the value that x begins with: all before the first `]`
 --   isOne v        a trimmed value is `1`
 --   tagAt x        the tag that the text x begins with
 --   tokens skip x  a text from left to right, each token with the cells that spell it; the first `skip` cells are the rest of a tag
@@ -6,16 +7,20 @@
 --   listsMost      how many lists may be open
 --   tooDeep x      an opener is met while so many are open
 -- Assumes nothing.
-use Prim.Native.Nat.{ℕ, zero, suc, _+_}
+use mathlib.Core.Path.{_≡_}
+use Prim.Native.Nat.{ℕ, zero, suc, _+_, _≤_}
 use mathlib.Core.Bool.{Bool, true, false, cond, _&&_, _||_}
 use mathlib.Core.List.{List, [], _∷_, _++_}
 use lib.ListN.{length, take, drop}
 use lib.Dec.{leb, ltb}
 use Rattle.text.specs.Ascii.{ascii, is, begins, toBracket}
 use Rattle.text.specs.Cells.{Cell, bytes}
-use Rattle.text.specs.Lines.{trim}
+use Rattle.text.specs.Lines.{trimStart, trim}
 use Rattle.lists.specs.declared.tag.Tag.{Tag}
 use Rattle.lists.specs.declared.tag.Tag.the-variants.{Opener, Item, Closer, Plain}
+
+unfoldable pub valueOf : List Cell → List Cell
+valueOf x = take (toBracket (bytes x)) x
 
 abbrev pub isOne : List Cell → Bool
 isOne [] = false
@@ -25,7 +30,7 @@ isOne (c ∷ d ∷ x) = false
 -- x stands behind `[list=`: a value and `]`
 unfoldable pub valued : List Cell → Tag
 valued x =
-    cond (ltb (toBracket (bytes x)) (length x) && isOne (trim (take (toBracket (bytes x)) x)))
+    cond (ltb (toBracket (bytes x)) (length x) && isOne (trim (valueOf x)))
     (Opener (6 + toBracket (bytes x)) true)
     Plain
 
@@ -36,6 +41,12 @@ tagAt x =
     (cond (begins (ascii "[*]") (bytes x)) Item
     (cond (begins (ascii "[/list]") (bytes x)) Closer
     Plain)))
+
+-- the cells of x from place i on are blank up to r, which is a `]`, not blank, or the end
+pub record Skips (x : List Cell) (i r : ℕ) : Type 0 where
+  pub within : (i ≤ r) × (r ≤ length x)
+  pub bracket : i + toBracket (bytes (drop i x)) ≡ r + toBracket (bytes (drop r x))
+  pub value : trimStart (valueOf (drop i x)) ≡ valueOf (drop r x)
 
 -- ---- tokens
 
@@ -104,5 +115,5 @@ tooDeep x = deeper 0 (tokens 0 x)
 
 -- all of this module, for `unfolding` where a closed text is to be computed
 unfoldable pub computes : Unit {0}
-unfolding valued tagAt tokens takenBy depthAfter taken takenLists deeper tooDeep
+unfolding valueOf valued tagAt tokens takenBy depthAfter taken takenLists deeper tooDeep
 computes = tt
