@@ -1,3 +1,4 @@
 pub mod ListsSplit
 pub mod Needs
 pub mod Values
+pub mod ItemLaws
