@@ -8,12 +8,9 @@ use lib.Dec.{eqb}
 use Rattle.text.specs.Ascii.{isEmpty}
 use Rattle.text.specs.Cells.{Cell, feed}
 use Rattle.text.specs.Lines.{trimStart, trimOnto, trimEnd, trim, isFeed, lineOnto, lines, followed, joined}
-use Rattle.lists.specs.Blocks.{trimItem}
+use Rattle.lists.specs.Blocks.{trimItem, trimmed}
 
 -- ---- lines with their ends trimmed, cell by cell
-
-unfoldable pub trimmed : List Cell → List (List Cell)
-trimmed x = map trimEnd (lines x)
 
 -- c, a line feed or not, before a text that has these
 abbrev before : (feeds : Bool) → Cell → List (List Cell) → List (List Cell)

@@ -2,3 +2,4 @@ pub mod ListsSplit
 pub mod Needs
 pub mod Values
 pub mod ItemLaws
+pub mod Markers

@@ -14,7 +14,7 @@ use Rattle.text.proofs.SplitLaws.{trimEnd-keeps, trim-keeps, strung, lines-keep
 use Rattle.lists.specs.declared.tag.Tag.{Tag}
 use Rattle.lists.specs.declared.tag.Tag.the-variants.{Opener, Item, Closer, Plain}
 use Rattle.lists.specs.Tags.{tagAt, Token, text, opens, starts, closes, tokenOf, restOf, tokens, takenBy, depthAfter, taken, takenLists}
-use Rattle.lists.specs.Blocks.{space, marker, trimItem, laterLine, itemLines, itemText, itemTexts, leadOnto, block}
+use Rattle.lists.specs.Blocks.{space, marker, trimItem, laterLine, indented, marked, itemText, itemTexts, leadOnto, block}
 use Rattle.lists.specs.Lists.{Open, State, nothing, endsInFeed, feedBefore, placed, closing, close, started, closed, step, finish, run, lists}
 
 -- ---- tokens spell the text
@@ -67,15 +67,18 @@ laterLine-keeps : (width : ℕ) (l : List Cell) → Keeps (laterLine width l) l
 laterLine-keeps width [] = done
 laterLine-keeps width (c ∷ l) = spaces-keep width (keeps-all (c ∷ l))
 
-itemLines-each : (mark : List Cell) → Keeps mark [] → (ls : List (List Cell)) → Each (itemLines mark ls) ls
-itemLines-each mark k [] = none
-itemLines-each mark k (l ∷ ls) =
-    each (append k (keeps-all l)) (each-map (laterLine (length mark)) (laterLine-keeps (length mark)) ls)
+indented-each : (width : ℕ) (ls : List (List Cell)) → Each (indented width ls) ls
+indented-each width [] = none
+indented-each width (l ∷ ls) = each (keeps-all l) (each-map (laterLine width) (laterLine-keeps width) ls)
+
+marked-keeps : (mark : List Cell) → Keeps mark [] → (ls : List (List Cell)) → Keeps (marked mark ls) (strung ls)
+unfolding strung
+marked-keeps mark k [] = done
+marked-keeps mark k (l ∷ ls) = append k (joined-keeps (indented-each (length mark) (l ∷ ls)))
 
 itemText-keeps : (mark : List Cell) → Keeps mark [] → (x : List Cell) → Keeps (itemText mark x) x
 unfolding itemText
-itemText-keeps mark k x =
-    after (trimItem-keeps x) (after (lines-keeps (trimItem x)) (joined-keeps (itemLines-each mark k (lines (trimItem x)))))
+itemText-keeps mark k x = after (trimItem-keeps x) (after (lines-keeps (trimItem x)) (marked-keeps mark k (lines (trimItem x))))
 
 itemTexts-each : (o s : Bool) (n : ℕ) (items : List (List Cell)) → Each (itemTexts o s n items) items
 unfolding itemTexts

@@ -3,15 +3,21 @@
 --   trimItem x         item and lead: each line's end trimmed, then the whole
 --   itemText mark x    an item behind its marker, later lines indented by the marker's width
 --   block o s parts    the lead and the items, its end trimmed
+--   trimmed x          the lines of x, each end trimmed
+--   partsIn w ss e     the parts of w that begin at the places ss, up to place e
+--   Rises ss e         each of these places is at most the next, and e
+--   Blocked ..         an item has been appended, or held back
 -- Assumes nothing.
-use Prim.Native.Nat.{ℕ, suc}
+use mathlib.Core.Path.{_≡_}
+use Prim.Native.Nat.{ℕ, suc, _+_, _≤_}
 use mathlib.Core.Bool.{Bool, true, false, cond}
 use mathlib.Core.List.{List, [], _∷_, _++_, map}
 use Prim.Native.Char.{code}
 use lib.ListN.{length, replicate}
-use Rattle.text.specs.Cells.{Cell, feed, sign}
+use Rattle.text.specs.Cells.{Cell, feed, sign, part}
 use Rattle.text.specs.Lines.{trim, trimEnd, lines, joined}
 use Rattle.text.specs.Decimal.{decimal}
+use Rattle.text.specs.Writes.{Appends}
 
 -- the space that a rule writes
 abbrev pub space : Cell
@@ -29,13 +35,18 @@ abbrev pub laterLine : (width : ℕ) → List Cell → List Cell
 laterLine width [] = []
 laterLine width (c ∷ l) = replicate width space ++ c ∷ l
 
--- an item's lines behind its marker: of an empty item nothing, no marker either
-abbrev pub itemLines : (mark : List Cell) → List (List Cell) → List (List Cell)
-itemLines mark [] = []
-itemLines mark (l ∷ ls) = (mark ++ l) ∷ map (laterLine (length mark)) ls
+-- lines with all after the first indented
+abbrev pub indented : (width : ℕ) → List (List Cell) → List (List Cell)
+indented width [] = []
+indented width (l ∷ ls) = l ∷ map (laterLine width) ls
+
+-- an item of these lines: of an empty item nothing, no marker either
+abbrev pub marked : (mark : List Cell) → List (List Cell) → List Cell
+marked mark [] = []
+marked mark (l ∷ ls) = mark ++ joined (indented (length mark) (l ∷ ls))
 
 unfoldable pub itemText : (mark : List Cell) → List Cell → List Cell
-itemText mark x = joined (itemLines mark (lines (trimItem x)))
+itemText mark x = marked mark (lines (trimItem x))
 
 -- the items from the number `index` on
 unfoldable pub itemTexts : (ordered second : Bool) → (index : ℕ) → List (List Cell) → List (List Cell)
@@ -51,6 +62,33 @@ leadOnto (c ∷ lead) items = (c ∷ lead) ++ feed ∷ items
 unfoldable pub block : (ordered second : Bool) → List (List Cell) → List Cell
 block ordered second [] = []
 block ordered second (lead ∷ items) = trimEnd (leadOnto (trimItem lead) (joined (itemTexts ordered second 1 items)))
+
+-- ---- in code
+
+unfoldable pub trimmed : List Cell → List (List Cell)
+trimmed x = map trimEnd (lines x)
+
+unfoldable pub partsIn : (w : List Cell) → (ss : List ℕ) → (e : ℕ) → List (List Cell)
+partsIn w [] e = []
+partsIn w (a ∷ []) e = part a e w ∷ []
+partsIn w (a ∷ b ∷ ss) e = part a b w ∷ partsIn w (b ∷ ss) e
+
+unfoldable pub Rises : (ss : List ℕ) → (e : ℕ) → Type 0
+Rises [] e = Unit
+Rises (a ∷ []) e = a ≤ e
+Rises (a ∷ b ∷ ss) e = (a ≤ b) × Rises (b ∷ ss) e
+
+-- line feeds and the items behind them, the end trimmed: what a block still has to write
+unfoldable pub heldBack : (held : ℕ) → List (List Cell) → List Cell
+heldBack held texts = trimEnd (replicate held feed ++ joined texts)
+
+-- an item's text t before others: from v at `at` to v' at `at'`, what is certain of it has been appended, and held' line feeds are
+-- held back in place of held
+pub record Blocked (v : List Cell) (at : ℕ) (v' : List Cell) (at' : ℕ) (t : List Cell) (held held' : ℕ) : Type 0 where
+  pub past : List Cell
+  pub wrote : Appends v at v' at' past
+  pub rest : (texts : List (List Cell)) → heldBack held (t ∷ texts) ≡ past ++ heldBack held' texts
+  pub few : held' ≤ held + 1
 
 -- all of this module, for `unfolding` where a closed text is to be computed
 unfoldable pub computes : Unit {0}
