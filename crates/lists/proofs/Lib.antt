@@ -3,3 +3,4 @@ pub mod Needs
 pub mod Values
 pub mod ItemLaws
 pub mod Markers
+pub mod ItemWriting

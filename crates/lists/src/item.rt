@@ -17,7 +17,7 @@ ghost use Rattle.text.specs.Cells.{cells, part, feed};
 ghost use Rattle.text.specs.Lines.{trimEnd, followed, joined};
 ghost use Rattle.text.specs.Decimal.{decimal};
 ghost use Rattle.text.specs.Writes.{Appends};
-ghost use Rattle.lists.specs.Blocks.{space, marker, laterLine, indented, trimmed};
+ghost use Rattle.lists.specs.Blocks.{space, marker, laterLine, indented, marked, trimmed};
 
 // Appends line feeds.
 pub fn put_feeds(n: usize, buf: &mut [u8], nums: &mut [u32], at: TextAt) -> TextAt
@@ -76,7 +76,14 @@ fn marker_sign(second: bool, one: u8, other: u8) -> u8
 }
 
 // Appends a marker.
-pub fn put_marker(ordered: bool, second: bool, index: u32, buf: &mut [u8], nums: &mut [u32], at: TextAt) -> TextAt
+pub fn put_marker(
+    ordered: bool,
+    second: bool,
+    index: u32,
+    buf: &mut [u8],
+    nums: &mut [u32],
+    at: TextAt,
+) -> TextAt
     ensures { λ r. ⌜ Appends (cells (now (buf .entry)) (now (nums .entry))) (at .0) (cells (now (buf .exit)) (now (nums .exit))) (r .0) (marker ordered second index) ⌝ }
 {
     if ordered {
@@ -86,4 +93,98 @@ pub fn put_marker(ordered: bool, second: bool, index: u32, buf: &mut [u8], nums:
     }
     let z = put_sign(buf, nums, at, marker_sign(second, b'-', b'*'));
     put(buf, nums, z, b' ', 1)
+}
+
+// Appends a line feed and a line after an item's first, its end trimmed.
+fn put_later(
+    src: &[u8],
+    from: &[u32],
+    a: PostAt,
+    e: PostAt,
+    width: usize,
+    buf: &mut [u8],
+    nums: &mut [u32],
+    at: TextAt,
+) -> TextAt
+    requires { ⌜ (a .0 ≤ e .0) × ((e .0 ≤ length (now src)) × (e .0 ≤ length (now from))) ⌝ }
+    ensures { λ r. ⌜ Appends (cells (now (buf .entry)) (now (nums .entry))) (at .0) (cells (now (buf .exit)) (now (nums .exit))) (r .0) (feed ∷ laterLine width (trimEnd (part (a .0) (e .0) (cells (now (src .entry)) (now (from .entry)))))) ⌝ }
+{
+    let i = a.0;
+    let end = trim_end(src, from, a, e);
+    let j = end.0;
+    let x = put_feed(buf, nums, at);
+    if i == j {
+        return x;
+    }
+    let y = put_spaces(width, buf, nums, x);
+    copy(src, from, PostAt(i), end, buf, nums, y)
+}
+
+// Appends all lines after an item's first.
+fn put_later_lines(
+    src: &[u8],
+    from: &[u32],
+    a: PostAt,
+    e: PostAt,
+    width: usize,
+    buf: &mut [u8],
+    nums: &mut [u32],
+    at: TextAt,
+) -> TextAt
+    requires { ⌜ (e .0 ≤ length (now src)) × (e .0 ≤ length (now from)) ⌝ }
+    ensures { λ r. ⌜ Appends (cells (now (buf .entry)) (now (nums .entry))) (at .0) (cells (now (buf .exit)) (now (nums .exit))) (r .0) (followed (map (laterLine width) (trimmed (part (a .0) (e .0) (cells (now (src .entry)) (now (from .entry))))))) ⌝ }
+{
+    let end = e.0;
+    let mut i = a.0;
+    let mut to = at;
+    while i < end {
+        let j = line_end(src, from, PostAt(i), PostAt(end));
+        let k = j.0;
+        to = put_later(src, from, PostAt(i), j, width, buf, nums, to);
+        i = k + 1;
+    }
+    to
+}
+
+// Appends lines, each end trimmed, all after the first indented.
+pub fn put_lines(
+    src: &[u8],
+    from: &[u32],
+    a: PostAt,
+    e: PostAt,
+    width: usize,
+    buf: &mut [u8],
+    nums: &mut [u32],
+    at: TextAt,
+) -> TextAt
+    requires { ⌜ (a .0 < e .0) × ((e .0 ≤ length (now src)) × (e .0 ≤ length (now from))) ⌝ }
+    ensures { λ r. ⌜ Appends (cells (now (buf .entry)) (now (nums .entry))) (at .0) (cells (now (buf .exit)) (now (nums .exit))) (r .0) (joined (indented width (trimmed (part (a .0) (e .0) (cells (now (src .entry)) (now (from .entry))))))) ⌝ }
+{
+    let i = a.0;
+    let j = line_end(src, from, a, e);
+    let k = j.0;
+    let end = trim_end(src, from, PostAt(i), j);
+    let x = copy(src, from, PostAt(i), end, buf, nums, at);
+    put_later_lines(src, from, PostAt(k + 1), e, width, buf, nums, x)
+}
+
+// Appends an item that is not empty, of the cells from a up to e, behind its marker.
+pub fn put_item(
+    src: &[u8],
+    from: &[u32],
+    a: PostAt,
+    e: PostAt,
+    ordered: bool,
+    second: bool,
+    index: u32,
+    buf: &mut [u8],
+    nums: &mut [u32],
+    at: TextAt,
+) -> TextAt
+    requires { ⌜ (a .0 < e .0) × ((e .0 ≤ length (now src)) × (e .0 ≤ length (now from))) ⌝ }
+    ensures { λ r. ⌜ Appends (cells (now (buf .entry)) (now (nums .entry))) (at .0) (cells (now (buf .exit)) (now (nums .exit))) (r .0) (marked (marker ordered second index) (trimmed (part (a .0) (e .0) (cells (now (src .entry)) (now (from .entry)))))) ⌝ }
+{
+    let width = marker_width(ordered, second, index);
+    let x = put_marker(ordered, second, index, buf, nums, at);
+    put_lines(src, from, a, e, width, buf, nums, x)
 }

@@ -1,3 +1,3 @@
 // Lists to Carve text (document 01, "Lists").
-pub mod tag;
 pub mod item;
+pub mod tag;
