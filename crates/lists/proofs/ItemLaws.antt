@@ -138,7 +138,7 @@ good-onto true c ls f g = next [] ls none g
 good-onto false c _ f (last l p s) = last (trimOnto c l) (plain-onto c l f p) (solid-onto c l s)
 good-onto false c _ f (next l ls p g) = next (trimOnto c l) ls (plain-onto c l f p) g
 
-good : {x : List Cell} → Solid x → Good (trimmed x)
+pub good : {x : List Cell} → Solid x → Good (trimmed x)
 good (one c e) = rw (trimmed-cons c [], feed-blank c e, trimmed-none, onto-other c e) (last (c ∷ []) (also c [] (feed-blank c e) none) (one c e))
 good (more c d x s) = rw (trimmed-cons c (d ∷ x)) (good-onto (isFeed c) c (trimmed (d ∷ x)) refl (good s))
 
@@ -164,7 +164,7 @@ lines-joined _ (last [] p s) = absurd (true≢false (solid-some s))
 lines-joined _ (last (c ∷ l) p s) = rw append-nil (plain-last c l p)
 lines-joined _ (next l ls p g) = rw (followed-joined ls g, plain-next l (joined ls) p, lines-joined ls g)
 
-solid-append : (l : List Cell) {x : List Cell} → Solid x → Solid (l ++ x)
+pub solid-append : (l : List Cell) {x : List Cell} → Solid x → Solid (l ++ x)
 solid-append [] s = s
 solid-append (c ∷ []) (one d e) = more c d [] (one d e)
 solid-append (c ∷ []) (more d e x s) = more c d (e ∷ x) (more d e x s)

@@ -4,3 +4,4 @@ pub mod Values
 pub mod ItemLaws
 pub mod Markers
 pub mod ItemWriting
+pub mod BlockLaws

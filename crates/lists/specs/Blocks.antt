@@ -13,7 +13,7 @@ use Prim.Native.Nat.{ℕ, suc, _+_, _≤_}
 use mathlib.Core.Bool.{Bool, true, false, cond}
 use mathlib.Core.List.{List, [], _∷_, _++_, map}
 use Prim.Native.Char.{code}
-use lib.ListN.{length, replicate}
+use lib.ListN.{length, take, drop, replicate}
 use Rattle.text.specs.Cells.{Cell, feed, sign, part}
 use Rattle.text.specs.Lines.{trim, trimEnd, lines, joined}
 use Rattle.text.specs.Decimal.{decimal}
@@ -68,15 +68,21 @@ block ordered second (lead ∷ items) = trimEnd (leadOnto (trimItem lead) (joine
 unfoldable pub trimmed : List Cell → List (List Cell)
 trimmed x = map trimEnd (lines x)
 
+-- the numbers from place a up to place e
+unfoldable pub between : (a e : ℕ) → List ℕ → List ℕ
+between a e l = drop a (take e l)
+
+abbrev pub headOr : (e : ℕ) → List ℕ → ℕ
+headOr e [] = e
+headOr e (b ∷ ss) = b
+
 unfoldable pub partsIn : (w : List Cell) → (ss : List ℕ) → (e : ℕ) → List (List Cell)
 partsIn w [] e = []
-partsIn w (a ∷ []) e = part a e w ∷ []
-partsIn w (a ∷ b ∷ ss) e = part a b w ∷ partsIn w (b ∷ ss) e
+partsIn w (a ∷ ss) e = part a (headOr e ss) w ∷ partsIn w ss e
 
 unfoldable pub Rises : (ss : List ℕ) → (e : ℕ) → Type 0
 Rises [] e = Unit
-Rises (a ∷ []) e = a ≤ e
-Rises (a ∷ b ∷ ss) e = (a ≤ b) × Rises (b ∷ ss) e
+Rises (a ∷ ss) e = (a ≤ headOr e ss) × Rises ss e
 
 -- line feeds and the items behind them, the end trimmed: what a block still has to write
 unfoldable pub heldBack : (held : ℕ) → List (List Cell) → List Cell
