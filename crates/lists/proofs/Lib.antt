@@ -5,3 +5,4 @@ pub mod ItemLaws
 pub mod Markers
 pub mod ItemWriting
 pub mod BlockLaws
+pub mod Closing

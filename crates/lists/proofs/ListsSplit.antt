@@ -10,12 +10,14 @@ use Rattle.text.specs.Lines.{trimEnd, lines, joined}
 use Rattle.text.specs.Decimal.{decimal}
 use Rattle.text.specs.Split.{Split, done, wrote, Keeps}
 use Rattle.text.proofs.SplitLaws.{append, keeps-all, takes-all, after, behind, taking, copying}
-use Rattle.text.proofs.SplitLaws.{trimEnd-keeps, trim-keeps, strung, lines-keeps, Each, none, each, each-map, joined-keeps}
+use Rattle.text.proofs.SplitLaws as T
+use Rattle.text.proofs.SplitLaws.{trimEnd-keeps, trim-keeps, lines-keeps, Each, none, each, each-map, joined-keeps}
 use Rattle.lists.specs.declared.tag.Tag.{Tag}
 use Rattle.lists.specs.declared.tag.Tag.the-variants.{Opener, Item, Closer, Plain}
 use Rattle.lists.specs.Tags.{tagAt, Token, text, opens, starts, closes, tokenOf, restOf, tokens, takenBy, depthAfter, taken, takenLists}
 use Rattle.lists.specs.Blocks.{space, marker, trimItem, laterLine, indented, marked, itemText, itemTexts, leadOnto, block}
 use Rattle.lists.specs.Lists.{Open, State, nothing, endsInFeed, feedBefore, placed, closing, close, started, closed, step, finish, run, lists}
+use Rattle.lists.specs.Standing.{strung, outers, contents}
 
 -- ---- tokens spell the text
 
@@ -71,8 +73,8 @@ indented-each : (width : ℕ) (ls : List (List Cell)) → Each (indented width l
 indented-each width [] = none
 indented-each width (l ∷ ls) = each (keeps-all l) (each-map (laterLine width) (laterLine-keeps width) ls)
 
-marked-keeps : (mark : List Cell) → Keeps mark [] → (ls : List (List Cell)) → Keeps (marked mark ls) (strung ls)
-unfolding strung
+marked-keeps : (mark : List Cell) → Keeps mark [] → (ls : List (List Cell)) → Keeps (marked mark ls) (T.strung ls)
+unfolding T.strung
 marked-keeps mark k [] = done
 marked-keeps mark k (l ∷ ls) = append k (joined-keeps (indented-each (length mark) (l ∷ ls)))
 
@@ -89,12 +91,18 @@ leadOnto-keeps : (y : List Cell) {x z w : List Cell} → Keeps y x → Keeps z w
 leadOnto-keeps [] k h = append k h
 leadOnto-keeps (c ∷ y) k h = append k (wrote feed refl h)
 
+strung-same : (xs : List (List Cell)) → T.strung xs ≡ strung xs
+unfolding T.strung strung
+strung-same [] = refl
+strung-same (x ∷ xs) = ap (λ (y : List Cell). x ++ y) (strung-same xs)
+
 block-keeps : (o s : Bool) (parts : List (List Cell)) → Keeps (block o s parts) (strung parts)
 unfolding block strung
 block-keeps o s [] = done
 block-keeps o s (lead ∷ items) =
-    after (leadOnto-keeps (trimItem lead) (trimItem-keeps lead) (joined-keeps (itemTexts-each o s 1 items)))
-    (trimEnd-keeps (leadOnto (trimItem lead) (joined (itemTexts o s 1 items))))
+    rw (← strung-same items)
+    (after (leadOnto-keeps (trimItem lead) (trimItem-keeps lead) (joined-keeps (itemTexts-each o s 1 items)))
+    (trimEnd-keeps (leadOnto (trimItem lead) (joined (itemTexts o s 1 items)))))
 
 feed-if : (b : Bool) → Keeps (cond b [] (feed ∷ [])) []
 feed-if true = done
@@ -114,14 +122,6 @@ pub strung-snoc : (xs : List (List Cell)) (x : List Cell) → strung (xs ++ x �
 unfolding strung
 strung-snoc [] x = append-nil x
 strung-snoc (y ∷ xs) x = ap (λ (z : List Cell). y ++ z) (strung-snoc xs x) ∙ sym (append-assoc y (strung xs) x)
-
--- all open contents, outermost first
-unfoldable pub outers : List Open → List Cell
-outers [] = []
-outers (l ∷ ls) = (outers ls ++ l .outer) ++ strung (l .parts)
-
-abbrev pub contents : State → List Cell
-contents s = outers (s .lists) ++ s .now
 
 close-keeps : (l : Open) (ls : List Open) (now : List Cell) → Keeps (outers ls ++ close l ls now) (outers (l ∷ ls) ++ now)
 unfolding outers closing

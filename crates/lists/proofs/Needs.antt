@@ -5,10 +5,9 @@ use Prim.Native.Nat.{ℕ, zero, suc, _≤_}
 use native.Mathlib.Omega.{arith}
 use lib.ListN.{length, drop, length-append}
 use Rattle.text.specs.Cells.{Cell}
-use Rattle.text.proofs.SplitLaws.{strung}
 use Rattle.lists.specs.Tags.{Token, tokens}
 use Rattle.lists.specs.Lists.{Open, State, nothing, close, step, finish, run, lists, sizeOf, held, finishNeed, runNeed, listsNeed}
-use Rattle.lists.proofs.ListsSplit.{outers}
+use Rattle.lists.specs.Standing.{strung, outers}
 
 pub tokens-skip : (k : ℕ) (x : List Cell) → tokens k x ≡ tokens 0 (drop k x)
 unfolding tokens

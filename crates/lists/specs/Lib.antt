@@ -1,4 +1,5 @@
 pub mod Tags
 pub mod Blocks
 pub mod Lists
+pub mod Standing
 pub mod Examples

@@ -2,3 +2,4 @@
 pub mod block;
 pub mod item;
 pub mod tag;
+pub mod close;
