@@ -6,3 +6,4 @@ pub mod Markers
 pub mod ItemWriting
 pub mod BlockLaws
 pub mod Closing
+pub mod Tables
