@@ -7,3 +7,4 @@ pub mod ItemWriting
 pub mod BlockLaws
 pub mod Closing
 pub mod Tables
+pub mod Standings
