@@ -8,3 +8,4 @@ pub mod BlockLaws
 pub mod Closing
 pub mod Tables
 pub mod Standings
+pub mod Closes

@@ -63,8 +63,9 @@ pub record Stands (before : List Cell) (bs ns : List ℕ) (end at top first : �
   pub frame : first ≡ frames (length before) end (s .lists) .first
   pub turn : second ≡ s .second
 
-pub record Steps (f : State → State) (bs ns : List ℕ) (end at top first : ℕ) (second : Bool) (bs' ns' : List ℕ) (at' top' first' : ℕ) (second' : Bool) : Type 0 where
-  pub step : (before : List Cell) (s : State) → Stands before bs ns end at top first second s → Stands before bs' ns' end at' top' first' second' (f s)
+-- wherever they hold a state behind `base` cells
+pub record Steps (f : State → State) (base : ℕ) (bs ns : List ℕ) (end at top first : ℕ) (second : Bool) (bs' ns' : List ℕ) (at' top' first' : ℕ) (second' : Bool) : Type 0 where
+  pub step : (before : List Cell) (s : State) → length before ≡ base → Stands before bs ns end at top first second s → Stands before bs' ns' end at' top' first' second' (f s)
 
 -- slices that hold a state, with room for all contents before `end`
 pub record Ready (bs ns : List ℕ) (base end at top first : ℕ) (second : Bool) : Type 0 where

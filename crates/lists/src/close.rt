@@ -1,12 +1,12 @@
 // Closing a list: its block takes the place of what it held.
+use crate::block::put_block;
+use crate::item::put_feeds;
 use text::PostAt;
 use text::TextAt;
 use text::area::copy_in;
 use text::trim::is_feed;
-use crate::block::put_block;
-use crate::item::put_feeds;
 ghost use mathlib.Core.Path.{_≡_};
-ghost use mathlib.Core.Bool.{cond};
+ghost use mathlib.Core.Bool.{cond, not};
 ghost use Prim.Native.Nat.{_+_, _≤_, _<_, _%_};
 ghost use lib.ListN.{length, getD};
 ghost use lib.Dec.{eqb, leb};
@@ -101,7 +101,77 @@ fn put_closing(
     let second = is_second(kind);
     let before = feeds_before(work, numbers, first, end);
     let x = put_feeds(before, out, origins, TextAt(0));
-    let y = put_block(work, numbers, first + 2, top, at, ordered, second, out, origins, x);
+    let y = put_block(
+        work,
+        numbers,
+        first + 2,
+        top,
+        at,
+        ordered,
+        second,
+        out,
+        origins,
+        x,
+    );
     let behind = feeds_behind(first, end);
     put_feeds(behind, out, origins, y)
+}
+
+// Whether the next list takes the first marker again.
+fn turns(kind: u32) -> bool
+    ensures { λ r. ⌜ r ≡ not (eqb (kind % 2) 1) ⌝ }
+{
+    if kind % 2 == 1 {
+        return false;
+    }
+    true
+}
+
+// Closes the innermost list. The block is built in out and origins, and copied over what the list held.
+pub fn close_list(
+    st: Machine,
+    base: usize,
+    end: usize,
+    work: &mut [u8],
+    numbers: &mut [u32],
+    out: &mut [u8],
+    origins: &mut [u32],
+) -> Machine
+    requires { ⌜ Ready (now work) (now numbers) base end (st .at) (st .top) (st .first) (st .second) × ((end < st .top) × ((base + length (now out) ≡ end) × (length (now out) ≤ length (now origins)))) ⌝ }
+    ensures { λ r. ⌜ Steps closeInner base (now (work .entry)) (now (numbers .entry)) end (st .at) (st .top) (st .first) (st .second) (now (work .exit)) (now (numbers .exit)) (r .at) (r .top) (r .first) (r .second) × (r .top ≤ st .top) ⌝ }
+{
+    let at = st.at;
+    let top = st.top;
+    let first = st.first;
+    let parent = numbers[first] as usize;
+    let kind = numbers[first + 1];
+    let start = numbers[first + 2] as usize;
+    let second = turns(kind);
+    let n = put_closing(work, numbers, end, at, top, first, out, origins);
+    let size = n.0;
+    if out.len() < size {
+        return Machine {
+            at: FULL,
+            top: first,
+            first: parent,
+            second,
+        };
+    }
+    let r = copy_in(
+        out,
+        origins,
+        PostAt(0),
+        PostAt(size),
+        work,
+        numbers,
+        end,
+        TextAt(start),
+    );
+    let to = r.0;
+    Machine {
+        at: to,
+        top: first,
+        first: parent,
+        second,
+    }
 }

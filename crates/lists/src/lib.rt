@@ -1,5 +1,5 @@
 // Lists to Carve text (document 01, "Lists").
 pub mod block;
+pub mod close;
 pub mod item;
 pub mod tag;
-pub mod close;
