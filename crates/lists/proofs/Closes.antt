@@ -33,7 +33,7 @@ table-stays ns ns' end k le h h' e = behind ns' h' ∙ ap (take (k - end)) e ∙
 
 -- ---- no list, no table
 
-no-table : (before : List Cell) (bs ns : List ℕ) (end at top first : ℕ) (second : Bool) (s : State) → s .lists ≡ [] → Stands before bs ns end at top first second s → top ≡ end
+pub no-table : (before : List Cell) (bs ns : List ℕ) (end at top first : ℕ) (second : Bool) (s : State) → s .lists ≡ [] → Stands before bs ns end at top first second s → top ≡ end
 unfolding frames between
 no-table before bs ns end at top first second s e h =
     let t : drop end (take top ns) ≡ [] = h .table ∙ ap (λ (l : List Open). frames (length before) end l .table) e in

@@ -9,3 +9,4 @@ pub mod Closing
 pub mod Tables
 pub mod Standings
 pub mod Closes
+pub mod Steppings

@@ -19,7 +19,7 @@ use Rattle.text.specs.Writes.{Holds}
 use Rattle.lists.specs.declared.tag.Tag.{Tag}
 use Rattle.lists.specs.declared.tag.Tag.the-variants.{Opener, Item, Closer, Plain}
 use Rattle.lists.specs.Blocks.{block, between, partsIn, Rises}
-use Rattle.lists.specs.Lists.{Open, State, endsInFeed, close}
+use Rattle.lists.specs.Lists.{Open, State, endsInFeed, close, started, closed}
 
 -- parts one behind another
 unfoldable pub strung : List (List Cell) → List Cell
@@ -116,3 +116,15 @@ pushed (Opener n o) = 3
 pushed Item = 1
 pushed Closer = 0
 pushed Plain = 0
+
+-- ---- tags, where the text from them on is y
+
+-- cells that stay text
+abbrev pub kept : List Cell → State → State
+kept x s = record { now = s .now ++ x; second = s .second; lists = s .lists }
+
+abbrev pub stepBy : Tag → (y : List Cell) → State → State
+stepBy (Opener n o) y s = record { now = []; second = false; lists = record { outer = s .now; ordered = o; second = s .second; parts = [] } ∷ s .lists }
+stepBy Item y s = started (take 3 y) s (s .lists)
+stepBy Closer y s = closed (take 7 y) s (s .lists)
+stepBy Plain y s = kept (take 1 y) s

@@ -2,4 +2,5 @@
 pub mod block;
 pub mod close;
 pub mod item;
+pub mod step;
 pub mod tag;
