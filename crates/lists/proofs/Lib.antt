@@ -10,3 +10,4 @@ pub mod Tables
 pub mod Standings
 pub mod Closes
 pub mod Steppings
+pub mod Runs

@@ -19,7 +19,8 @@ use Rattle.text.specs.Writes.{Holds}
 use Rattle.lists.specs.declared.tag.Tag.{Tag}
 use Rattle.lists.specs.declared.tag.Tag.the-variants.{Opener, Item, Closer, Plain}
 use Rattle.lists.specs.Blocks.{block, between, partsIn, Rises}
-use Rattle.lists.specs.Lists.{Open, State, endsInFeed, close, started, closed}
+use Rattle.lists.specs.Tags.{Token}
+use Rattle.lists.specs.Lists.{Open, State, endsInFeed, close, started, closed, run, lists, runNeed, listsNeed}
 
 -- parts one behind another
 unfoldable pub strung : List (List Cell) → List Cell
@@ -128,3 +129,18 @@ stepBy (Opener n o) y s = record { now = []; second = false; lists = record { ou
 stepBy Item y s = started (take 3 y) s (s .lists)
 stepBy Closer y s = closed (take 7 y) s (s .lists)
 stepBy Plain y s = kept (take 1 y) s
+
+-- ---- a run
+
+-- the slices hold a state from which the tokens ks lead to the text of the pass on x, in the room m where its need is in m
+pub record Running (m : ℕ) (x before : List Cell) (bs ns : List ℕ) (end at top first : ℕ) (second : Bool) (ks : List Token) : Type 0 where
+  pub state : State
+  pub holds : Stands before bs ns end at top first second state
+  pub fits : listsNeed x ≤ m → runNeed ks state ≤ m
+  pub needs : runNeed ks state ≤ m → listsNeed x ≤ m
+  pub same : lists x ≡ run ks state
+
+-- at most r cells: the pass's text from place base on, where its need is in the room m; else r is past the end
+pub record Passed (m : ℕ) (x : List Cell) (base end : ℕ) (bs ns : List ℕ) (r : ℕ) : Type 0 where
+  pub done : listsNeed x ≤ m → (r ≡ base + length (lists x)) × (part base r (cells bs ns) ≡ lists x)
+  pub full : m < listsNeed x → end < r
