@@ -20,6 +20,8 @@ use Rattle.lists.specs.Lists.{Open, State, nothing, close, step, finish,
 use Rattle.lists.specs.Standing.{outers, contents, frames, Stands, Steps, Ready, closeInner, stepBy, pushed, Running, Passed}
 use Rattle.lists.proofs.Needs.{tokens-skip, outers-held}
 use Rattle.lists.proofs.Standings.{stands-end, stands-text}
+use Rattle.lists.proofs.Closes.{no-table}
+use Rattle.lists.proofs.Steppings.{some-table, part-take}
 
 -- ---- sizes
 
@@ -91,3 +93,51 @@ passed-done m x before bs ns base end at top first second w none lb area fit hb 
       done = λ h. (rw r (omega arith), ap (drop base) q ∙ drop-at before (w .state .now) base lb ∙ sym r);
       full = λ h. absurd (let k = w .needs (omega arith) in omega arith);
     }
+
+-- ---- from slices to slices
+
+pub ready-next : {f : State → State} (bs ns bs' ns' : List ℕ) (base end at top first at' top' first' : ℕ) (second second' : Bool) → Ready bs ns base end at top first second
+    → Steps f base bs ns end at top first second bs' ns' at' top' first' second' → at' ≤ end → length bs' ≡ length bs → length ns' ≡ length ns → top' ≤ end + 67108864
+    → Ready bs' ns' base end at' top' first' second'
+ready-next {f} bs ns bs' ns' base end at top first at' top' first' second second' r p fit lb ln few =
+    let w = r .within in
+    record {
+      before = r .before;
+      state = f (r .state);
+      holds = p .step (r .before) (r .state) (r .begins) (r .holds);
+      begins = r .begins;
+      fits = fit;
+      within = (omega (arith, w .0), (omega (arith, w .1 .0), (omega (arith, w .1 .1 .0), few)));
+    }
+
+-- closing one list at the end
+module _ (m : ℕ) (x before : List Cell) (bs ns : List ℕ) (base end at top first : ℕ) (second : Bool) (w : Running m x before bs ns end at top first second [])
+    (lb : length before ≡ base) (area : base + m ≡ end) (fit : at ≤ end) (hb : end ≤ length bs) (hn : end ≤ length ns) (lt : end < top)
+    (bs' ns' : List ℕ) (at' top' first' : ℕ) (second' : Bool) (p : Steps closeInner base bs ns end at top first second bs' ns' at' top' first' second') where
+  close-run : (ls : List Open) → w .state .lists ≡ ls → run [] (w .state) ≡ run [] (closeInner (w .state))
+  unfolding run finish
+  close-run [] e = absurd (let n = no-table before bs ns end at top first second (w .state) e (w .holds) in omega arith)
+  close-run (l ∷ ls) e = rw e
+
+  close-need : (ls : List Open) → w .state .lists ≡ ls → runNeed [] (w .state) ≡ max (sizeOf (w .state)) (runNeed [] (closeInner (w .state)))
+  unfolding runNeed finishNeed
+  close-need [] e = absurd (let n = no-table before bs ns end at top first second (w .state) e (w .holds) in omega arith)
+  close-need (l ∷ ls) e = rw e
+
+  pub finish-turn : Running m x before bs' ns' end at' top' first' second' []
+  finish-turn =
+      goes-on m x before bs ns base end at top first second [] w lb area fit hb hn [] (closeInner (w .state)) (close-run (w .state .lists) refl) (close-need (w .state .lists) refl)
+      bs' ns' at' top' first' second' (p .step before (w .state) lb (w .holds))
+
+  pub finish-over : end ≤ length bs' → end ≤ length ns' → end < at' → m < listsNeed x
+  finish-over =
+      overflows m x before bs ns base end at top first second [] w lb area fit hb hn [] (closeInner (w .state)) (close-run (w .state .lists) refl) (close-need (w .state .lists) refl)
+      bs' ns' at' top' first' second' (p .step before (w .state) lb (w .holds))
+
+-- no list is open
+pub none-open : (before : List Cell) (bs ns : List ℕ) (end at top first : ℕ) (second : Bool) (s : State) → Stands before bs ns end at top first second s → top ≤ end → s .lists ≡ []
+none-open before bs ns end at top first second s h le = by (s .now) (s .second) (s .lists) h
+  where
+    by : (now : List Cell) (sec : Bool) (ls : List Open) → Stands before bs ns end at top first second (record { now = now; second = sec; lists = ls }) → ls ≡ []
+    by now sec [] h = refl
+    by now sec (l ∷ ls) h = absurd (let g = some-table before bs ns end at top first second now sec l ls h in omega arith)

@@ -107,7 +107,7 @@ opens-step o ns at top first kind second room q n base end bs y fit hb = record 
       };
 }
 
-some-table : (before : List Cell) (bs ns : List ℕ) (end at top first : ℕ) (second : Bool) (now : List Cell) (sec : Bool) (l : Open) (ls : List Open)
+pub some-table : (before : List Cell) (bs ns : List ℕ) (end at top first : ℕ) (second : Bool) (now : List Cell) (sec : Bool) (l : Open) (ls : List Open)
     → Stands before bs ns end at top first second (record { now = now; second = sec; lists = l ∷ ls }) → end < top
 unfolding frames
 some-table before bs ns end at top first second now sec l ls h =

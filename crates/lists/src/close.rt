@@ -138,7 +138,7 @@ pub fn close_list(
     origins: &mut [u32],
 ) -> Machine
     requires { ⌜ Ready (now work) (now numbers) base end (st .at) (st .top) (st .first) (st .second) × ((end < st .top) × ((base + length (now out) ≡ end) × (length (now out) ≤ length (now origins)))) ⌝ }
-    ensures { λ r. ⌜ Steps closeInner base (now (work .entry)) (now (numbers .entry)) end (st .at) (st .top) (st .first) (st .second) (now (work .exit)) (now (numbers .exit)) (r .at) (r .top) (r .first) (r .second) × (r .top ≤ st .top) ⌝ }
+    ensures { λ r. ⌜ Steps closeInner base (now (work .entry)) (now (numbers .entry)) end (st .at) (st .top) (st .first) (st .second) (now (work .exit)) (now (numbers .exit)) (r .at) (r .top) (r .first) (r .second) × (r .top < st .top) ⌝ }
 {
     let at = st.at;
     let top = st.top;

@@ -2,5 +2,6 @@
 pub mod block;
 pub mod close;
 pub mod item;
+pub mod pass;
 pub mod step;
 pub mod tag;

@@ -42,7 +42,7 @@ same-length-6 : tie.Need-same-length-6
 same-length-6 c = search needs
 
 returns-2 : tie.Need-returns-2
-returns-2 c = let p = c .before .before .before .before .before .before .before .before .before .before .before .before .before .before .before .before .before .before .pre in let x = c .before .before .before .before .before .before .before .before .before .before .before .before .before .before .before .before .before .before .args in let r = p .0 .holds .reaches in (counting-closer (drop (x .i) (cells (x .work .now) (x .numbers .now))) _ _ _ _ _ _ _ _ _ _ _ _ _ _ (omega (arith, r .0, c .before .before .before .before .before .before .before .before .before .before .before .before .before .if1 .left)) (c .before .before .before .before .before .before .before .before .close-list .ensures .0), c .before .before .before .before .before .before .before .before .close-list .ensures .1)
+returns-2 c = let p = c .before .before .before .before .before .before .before .before .before .before .before .before .before .before .before .before .before .before .pre in let x = c .before .before .before .before .before .before .before .before .before .before .before .before .before .before .before .before .before .before .args in let r = p .0 .holds .reaches in (counting-closer (drop (x .i) (cells (x .work .now) (x .numbers .now))) _ _ _ _ _ _ _ _ _ _ _ _ _ _ (omega (arith, r .0, c .before .before .before .before .before .before .before .before .before .before .before .before .before .if1 .left)) (c .before .before .before .before .before .before .before .before .close-list .ensures .0), omega (arith, c .before .before .before .before .before .before .before .before .close-list .ensures .1))
 
 pub end-list-spec : {M : Type 1} → statement M
 end-list-spec =
