@@ -252,7 +252,7 @@ cells-bytes [] ns h = refl
 cells-bytes (b ∷ bs) [] h = absurd (not-suc-le-zero h)
 cells-bytes (b ∷ bs) (n ∷ ns) h = ap (λ (l : List ℕ). b ∷ l) (cells-bytes bs ns (le-of-suc-le-suc h))
 
-begins-long : (w s : List ℕ) → begins w s ≡ true → length w ≤ length s
+pub begins-long : (w s : List ℕ) → begins w s ≡ true → length w ≤ length s
 unfolding begins
 begins-long [] s e = omega arith
 begins-long (a ∷ w) [] e = absurd (true≢false (sym e))

@@ -52,3 +52,38 @@ fn rest_of(tag: Tag) -> usize
         Tag::Plain => 0,
     }
 }
+
+// The list pass on the cells from a up to e of the pair (work, numbers). All open contents stand in the same pair from base up to end, as
+// many cells as out has, and the table behind them. The place behind the text, past the end where its need is more.
+pub fn list_pass(
+    a: usize,
+    e: usize,
+    base: usize,
+    end: usize,
+    work: &mut [u8],
+    numbers: &mut [u32],
+    out: &mut [u8],
+    origins: &mut [u32],
+) -> usize
+    requires { ⌜ ((a ≤ e) × ((e ≤ base) × (e ≤ a + 16777216))) × (((base + length (now out) ≡ end) × (length (now out) ≤ length (now origins))) × ((end ≤ length (now work)) × ((end + (e - a) ≤ length (now numbers)) × (length (now numbers) ≤ 4294967295)))) ⌝ }
+    ensures { λ r. ⌜ Passed (length (now (out .entry))) (part a e (cells (now (work .entry)) (now (numbers .entry)))) base end (now (work .exit)) (now (numbers .exit)) r ⌝ }
+{
+    let mut st = Machine {
+        at: base,
+        top: end,
+        first: end,
+        second: false,
+    };
+    let mut i = a;
+    while i < e {
+        let tag = tag_at(&work[i..e], &numbers[i..e]);
+        let n = rest_of(tag);
+        st = step(tag, i, st, base, end, work, numbers, out, origins);
+        let at = st.at;
+        if end < at {
+            return FULL;
+        }
+        i = i + n + 1;
+    }
+    finish_lists(st, base, end, work, numbers, out, origins)
+}
