@@ -11,3 +11,4 @@ pub mod Standings
 pub mod Closes
 pub mod Steppings
 pub mod Runs
+pub mod Depths

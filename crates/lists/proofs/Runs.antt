@@ -212,7 +212,7 @@ cells-dropped (suc i) [] ns = refl
 cells-dropped (suc i) (b ∷ bs) [] = cells-none (drop i bs)
 cells-dropped (suc i) (b ∷ bs) (n ∷ ns) = cells-dropped i bs ns
 
-cells-sub : (bs ns : List ℕ) (i k : ℕ) → cells (take k (drop i bs)) (take k (drop i ns)) ≡ take k (drop i (cells bs ns))
+pub cells-sub : (bs ns : List ℕ) (i k : ℕ) → cells (take k (drop i bs)) (take k (drop i ns)) ≡ take k (drop i (cells bs ns))
 cells-sub bs ns i k = cells-taken k (drop i bs) (drop i ns) ∙ ap (take k) (cells-dropped i bs ns)
 
 token-step : (t : Tag) (c : Cell) (x : List Cell) (s : State) → step (tokenOf t c x) s ≡ stepBy t (c ∷ x) s

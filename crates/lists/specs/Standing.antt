@@ -130,6 +130,13 @@ stepBy Item y s = started (take 3 y) s (s .lists)
 stepBy Closer y s = closed (take 7 y) s (s .lists)
 stepBy Plain y s = kept (take 1 y) s
 
+-- how many lists are open behind a tag, where depth are open before it
+abbrev pub depthBy : Tag → (depth : ℕ) → ℕ
+depthBy (Opener n o) depth = depth + 1
+depthBy Item depth = depth
+depthBy Closer depth = depth - 1
+depthBy Plain depth = depth
+
 -- ---- a run
 
 -- the slices hold a state from which the tokens ks lead to the text of the pass on x, in the room m where its need is in m

@@ -42,7 +42,7 @@ fn finish_lists(
 }
 
 // How many cells a tag has behind its first.
-fn rest_of(tag: Tag) -> usize
+pub fn rest_of(tag: Tag) -> usize
     ensures { λ r. ⌜ r ≡ restOf tag ⌝ }
 {
     match tag {
