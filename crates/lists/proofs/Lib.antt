@@ -12,3 +12,4 @@ pub mod Closes
 pub mod Steppings
 pub mod Runs
 pub mod Depths
+pub mod Conversion

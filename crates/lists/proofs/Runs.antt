@@ -193,7 +193,7 @@ tag-size y h = by₁ (begins (ascii "[list]") (bytes y)) refl
 
 -- ---- one token
 
-cells-taken : (k : ℕ) (bs ns : List ℕ) → cells (take k bs) (take k ns) ≡ take k (cells bs ns)
+pub cells-taken : (k : ℕ) (bs ns : List ℕ) → cells (take k bs) (take k ns) ≡ take k (cells bs ns)
 unfolding cells
 cells-taken zero bs ns = refl
 cells-taken (suc k) [] ns = refl

@@ -2,4 +2,5 @@ pub mod Tags
 pub mod Blocks
 pub mod Lists
 pub mod Standing
+pub mod Calls
 pub mod Examples
