@@ -1,0 +1,83 @@
+-- Laws of counting open lists. Assumes nothing.
+use mathlib.Core.Path.{_≡_, refl, sym, ap, _∙_}
+use mathlib.Core.Bool.{Bool, true, false, _||_}
+use mathlib.Core.List.{List, [], _∷_}
+use Prim.Native.Nat.{ℕ, zero, suc, _+_, _-_, _≤_, _<_}
+use native.Mathlib.Numerals.{add-one}
+use native.Mathlib.Omega.{arith}
+use lib.ListN.{length, take, drop, drop-of-length-le, length-drop}
+use lib.Seq.{take-all, drop-drop}
+use lib.Dec.{leb, ltb}
+use borrow.Author.Tests.{lt-leb, le-leb}
+use Rattle.text.specs.Cells.{Cell, cells}
+use Rattle.lists.specs.declared.tag.Tag.{Tag}
+use Rattle.lists.specs.declared.tag.Tag.the-variants.{Opener, Item, Closer, Plain}
+use Rattle.lists.specs.Tags.{Token, tagAt, tokenOf, restOf, tokens, depthAfter, overLimit, deeper, tooDeep}
+use Rattle.lists.specs.Standing.{depthBy}
+use Rattle.lists.proofs.Needs.{tokens-skip}
+use Rattle.lists.proofs.Values.{cells-length}
+use Rattle.lists.proofs.Runs.{cells-sub, tag-size}
+
+depth-after : (t : Tag) (c : Cell) (x : List Cell) (d : ℕ) → depthAfter d (tokenOf t c x) ≡ depthBy t d
+unfolding depthAfter
+depth-after (Opener n o) c x d = sym (add-one d)
+depth-after Item c x d = refl
+depth-after Closer c x zero = refl
+depth-after Closer c x (suc d) = omega arith
+depth-after Plain c x d = refl
+
+limit-over : (t : Tag) (c : Cell) (x : List Cell) (d : ℕ) → d ≤ 64 → 64 < depthBy t d → overLimit d (tokenOf t c x) ≡ true
+limit-over (Opener n o) c x d h far = le-leb 64 d (omega arith)
+limit-over Item c x d h far = absurd (omega arith)
+limit-over Closer c x d h far = absurd (omega arith)
+limit-over Plain c x d h far = absurd (omega arith)
+
+limit-under : (t : Tag) (c : Cell) (x : List Cell) (d : ℕ) → depthBy t d ≤ 64 → overLimit d (tokenOf t c x) ≡ false
+limit-under (Opener n o) c x d h = lt-leb 64 d (omega arith)
+limit-under Item c x d h = refl
+limit-under Closer c x d h = refl
+limit-under Plain c x d h = refl
+
+deeper-over : (y : List Cell) (d : ℕ) → 0 < length y → d ≤ 64 → 64 < depthBy (tagAt y) d → deeper d (tokens 0 y) ≡ true
+unfolding deeper tokens
+deeper-over [] d h le far = absurd (omega arith)
+deeper-over (c ∷ x) d h le far = rw (limit-over (tagAt (c ∷ x)) c x d le far)
+
+deeper-under : (y : List Cell) (d : ℕ) → 0 < length y → depthBy (tagAt y) d ≤ 64 → deeper d (tokens 0 y) ≡ deeper (depthBy (tagAt y) d) (tokens 0 (drop (suc (restOf (tagAt y))) y))
+unfolding deeper tokens
+deeper-under [] d h le = absurd (omega arith)
+deeper-under (c ∷ x) d h le =
+    rw (limit-under (tagAt (c ∷ x)) c x d le, depth-after (tagAt (c ∷ x)) c x d)
+    (ap (λ (ks : List Token). deeper (depthBy (tagAt (c ∷ x)) d) ks) (tokens-skip (restOf (tagAt (c ∷ x))) x))
+
+module _ (bs ns : List ℕ) (h : length bs ≤ length ns) (i d : ℕ) (lt : i < length bs) (tag : Tag)
+    (q : tag ≡ tagAt (cells (take (length bs - i) (drop i bs)) (take (length bs - i) (drop i ns)))) where
+  left : length (drop i (cells bs ns)) ≡ length bs - i
+  left = length-drop i (cells bs ns) ∙ (let l = cells-length bs ns h in omega arith)
+
+  tag-is : tag ≡ tagAt (drop i (cells bs ns))
+  tag-is = q ∙ ap tagAt (cells-sub bs ns i (length bs - i) ∙ take-all (length bs - i) (drop i (cells bs ns)) (let l = left in omega arith))
+
+  pub depth-size : i + (1 + restOf tag) ≤ length bs
+  depth-size =
+      let l = left in
+      let s = tag-size (drop i (cells bs ns)) (omega arith) .0 in
+      rw tag-is (omega (arith, s))
+
+  pub depth-over : d ≤ 64 → 64 < depthBy tag d → deeper d (tokens 0 (drop i (cells bs ns))) ≡ true
+  depth-over le far = let l = left in deeper-over (drop i (cells bs ns)) d (omega arith) le (rw tag-is at far)
+
+  pub depth-goes : depthBy tag d ≤ 64 → deeper d (tokens 0 (drop i (cells bs ns))) ≡ deeper (depthBy tag d) (tokens 0 (drop (i + restOf tag + 1) (cells bs ns)))
+  depth-goes le =
+      let l = left in
+      let n : i + suc (restOf tag) ≡ i + restOf tag + 1 = omega arith in
+      deeper-under (drop i (cells bs ns)) d (omega arith) (rw tag-is at le)
+      ∙ rw (← tag-is, drop-drop (suc (restOf tag)) i (cells bs ns), n)
+
+pub depth-start : (x : List Cell) → tooDeep x ≡ deeper 0 (tokens 0 x)
+unfolding tooDeep
+depth-start x = refl
+
+pub depth-end : (bs ns : List ℕ) (i d : ℕ) → length bs ≤ length ns → length bs ≤ i → deeper d (tokens 0 (drop i (cells bs ns))) ≡ false
+unfolding deeper tokens
+depth-end bs ns i d h le = rw (drop-of-length-le (cells bs ns) {i = i} (let l = cells-length bs ns h in omega arith))

@@ -1,0 +1,56 @@
+use borrow.Author.Needs.{needs}
+use native.Mathlib.Omega.{arith}
+use mathlib.Core.Path.{_≡_, refl, sym, ap, _∙_}
+use Prim.Native.Nat.{ℕ, suc, _+_, _-_, _≤_, _<_}
+use mathlib.Core.List.{List, [], _∷_, _++_}
+use lib.ListN.{length, getD}
+use Rattle.lists.proofs.depth.depth_after.Statement.{statement}
+use Rattle.lists.proofs.depth.depth_after.Tie as tie
+use Rattle.lists.proofs.depth.depth_after.Reads as reads
+use Rattle.lists.proofs.depth.depth_after.Lts as lts
+use Rattle.lists.proofs.depth.less.Reads as less-reads
+
+enum-told : tie.Need-enum-told
+enum-told c = search needs
+
+add-result : tie.Need-add-result
+add-result c = search needs
+
+enum-told-2 : tie.Need-enum-told-2
+enum-told-2 c = search needs
+
+enum-told-3 : tie.Need-enum-told-3
+enum-told-3 c = search needs
+
+less-requires : tie.Need-less-requires
+less-requires c κs = search needs
+
+enum-told-4 : tie.Need-enum-told-4
+enum-told-4 c = search needs
+
+returns : tie.Need-returns
+returns c = rw (c .enum-told .given .1)
+
+returns-2 : tie.Need-returns-2
+returns-2 c = search needs
+
+returns-3 : tie.Need-returns-3
+returns-3 c = rw (c .before .enum-told3 .given .1) (c .less .ensures)
+
+returns-4 : tie.Need-returns-4
+returns-4 c = search needs
+
+pub depth-after-spec : {M : Type 1} → statement M
+depth-after-spec =
+    tie.close
+    (tie.spec
+    enum-told
+    add-result
+    enum-told-2
+    enum-told-3
+    less-requires
+    enum-told-4
+    returns
+    returns-2
+    returns-3
+    returns-4)
