@@ -6,3 +6,6 @@ pub mod Depths
 pub mod Blocks
 pub mod Passing
 pub mod Masking
+pub mod Bared
+pub mod Tabling
+pub mod Finding

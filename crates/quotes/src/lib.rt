@@ -2,4 +2,5 @@
 pub mod content;
 pub mod deep;
 pub mod mask;
+pub mod search;
 pub mod tag;
