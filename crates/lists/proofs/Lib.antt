@@ -13,3 +13,4 @@ pub mod Steppings
 pub mod Runs
 pub mod Depths
 pub mod Conversion
+pub mod Sizes
