@@ -13,4 +13,3 @@ pub mod Steppings
 pub mod Runs
 pub mod Depths
 pub mod Conversion
-pub mod Sizes
