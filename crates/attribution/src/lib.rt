@@ -1,6 +1,2 @@
-// The caption of an attribution and what it loses: document 01, "Attributions".
+// Attributions: the name and the caption.
 pub mod caption;
-pub mod facts;
-pub mod join;
-pub mod loss;
-pub mod scan;

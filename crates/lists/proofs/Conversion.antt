@@ -16,13 +16,19 @@ use Rattle.text.specs.declared.lent.Refusal.the-variants.{TooDeep, NoSpace}
 use Rattle.text.proofs.Writing.{cells-short}
 use Rattle.lists.specs.declared.Listed.{Listed}
 use Rattle.lists.specs.declared.Listed.the-variants.{Done, Refused}
-use Rattle.lists.specs.Tags.{tooDeep}
-use Rattle.lists.specs.Lists.{lists, listsNeed}
-use Rattle.lists.specs.Standing.{Passed}
-use Rattle.lists.specs.Calls.{converted, textOf, Converted}
-use Rattle.lists.proofs.Needs.{lists-fits}
-use Rattle.lists.proofs.Steppings.{part-take}
-use Rattle.lists.proofs.Runs.{cells-taken, cells-sub}
+use Rattle.list_blocks.specs.Tags.{tooDeep}
+use Rattle.list_blocks.specs.Lists.{lists, listsNeed}
+use Rattle.list_steps.specs.Standing.{Passed}
+use Rattle.text.specs.Lent.{checked}
+use Rattle.text.specs.declared.lent.Refusal.{Refusal}
+use Rattle.text.specs.declared.lent.Lent.{Lent}
+use Rattle.text.specs.declared.lent.Spans.the-variants.{Without}
+use Rattle.text.specs.declared.lent.Checked.{Checked}
+use Rattle.text.specs.declared.lent.Checked.the-variants as C
+use Rattle.lists.specs.Calls.{converted, answerBy, answered, textOf, Called, Converted}
+use Rattle.list_steps.proofs.Needs.{lists-fits}
+use Rattle.list_steps.proofs.Steppings.{part-take}
+use Rattle.list_steps.proofs.Runs.{cells-taken, cells-sub}
 
 pub source-turn : (text work : List ℕ) (i : ℕ) → i < length text → i < length work → take i work ≡ take i text → take (i + 1) (set work i (getD text i 0)) ≡ take (i + 1) text
 source-turn text work i h k e = rw (add-one i, take-suc-set work i (getD text i 0) k, take-suc text i 0 h, e)
@@ -77,3 +83,20 @@ module _ (text : List ℕ) (x y : List Cell) (m k base end r : ℕ) (t : Bool) (
       ∙ ap (λ (j : ℕ). take j (drop base (cells bs ns))) g
       ∙ sym (part-take (cells bs ns) base (r - base) in-cells) ∙ ap (λ (j : ℕ). part base j (cells bs ns)) e' ∙ w .1 ∙ ap lists z in
       record { answer = rw (fine, le-ltb m (listsNeed (cellsOf text)) (omega arith), s); laid = rw (← c) laid }
+
+-- the text stands behind the base
+pub passed-up : (m : ℕ) (y : List Cell) (base end r : ℕ) (bs ns : List ℕ) → base + m ≡ end → Passed m y base end bs ns r → r ≤ end → base ≤ r
+passed-up m y base end r bs ns area p fit =
+    elim (decLe (listsNeed y) m) [ yes h ↦ (let w = p .done h .0 in omega arith) | no h ↦ absurd (let w = p .full (omega arith) in omega arith) ]
+
+-- ---- the whole call
+
+module _ (text : List ℕ) (m k w n : ℕ) (c : Checked) (l : Listed) {out plain : List ℕ}
+    (d : c ≡ checked text (record { out = m; origins = k; work = w; numbers = n; spans = Without })) where
+  pub called-refused : (r : Refusal) → c ≡ C.Refused r → l ≡ Refused r → LaidOut [] m k out plain → Called text m k w n l out plain
+  unfolding answered
+  called-refused r e g laid = rw g (record { answer = ap (λ (a : Checked). answerBy a (cellsOf text) m) (sym e ∙ d); laid = laid })
+
+  pub called-fine : c ≡ C.Fine → Converted text m k l out plain → Called text m k w n l out plain
+  unfolding answered
+  called-fine e v = record { answer = v .answer ∙ ap (λ (a : Checked). answerBy a (cellsOf text) m) (sym e ∙ d); laid = v .laid }

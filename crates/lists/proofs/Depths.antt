@@ -10,13 +10,13 @@ use lib.Seq.{take-all, drop-drop}
 use lib.Dec.{leb, ltb}
 use borrow.Author.Tests.{lt-leb, le-leb}
 use Rattle.text.specs.Cells.{Cell, cells}
-use Rattle.lists.specs.declared.tag.Tag.{Tag}
-use Rattle.lists.specs.declared.tag.Tag.the-variants.{Opener, Item, Closer, Plain}
-use Rattle.lists.specs.Tags.{Token, tagAt, tokenOf, restOf, tokens, depthAfter, overLimit, deeper, tooDeep}
-use Rattle.lists.specs.Standing.{depthBy}
-use Rattle.lists.proofs.Needs.{tokens-skip}
-use Rattle.lists.proofs.Values.{cells-length}
-use Rattle.lists.proofs.Runs.{cells-sub, tag-size}
+use Rattle.list_blocks.specs.declared.tag.Tag.{Tag}
+use Rattle.list_blocks.specs.declared.tag.Tag.the-variants.{Opener, Item, Closer, Plain}
+use Rattle.list_blocks.specs.Tags.{Token, tagAt, tokenOf, restOf, tokens, depthAfter, overLimit, deeper, tooDeep}
+use Rattle.list_steps.specs.Standing.{depthBy}
+use Rattle.list_steps.proofs.Needs.{tokens-skip}
+use Rattle.list_blocks.proofs.Values.{cells-length}
+use Rattle.list_steps.proofs.Runs.{cells-sub, tag-size}
 
 depth-after : (t : Tag) (c : Cell) (x : List Cell) (d : ℕ) → depthAfter d (tokenOf t c x) ≡ depthBy t d
 unfolding depthAfter

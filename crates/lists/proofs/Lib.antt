@@ -1,15 +1,3 @@
-pub mod ListsSplit
-pub mod Needs
-pub mod Values
-pub mod ItemLaws
-pub mod Markers
-pub mod ItemWriting
-pub mod BlockLaws
-pub mod Closing
-pub mod Tables
-pub mod Standings
-pub mod Closes
-pub mod Steppings
-pub mod Runs
 pub mod Depths
 pub mod Conversion
+pub mod Sizes

@@ -19,8 +19,8 @@ use Rattle.text.specs.declared.lent.Checked.{Checked}
 use Rattle.text.specs.declared.lent.Checked.the-variants as C
 use Rattle.lists.specs.declared.Listed.{Listed}
 use Rattle.lists.specs.declared.Listed.the-variants.{Done, Refused}
-use Rattle.lists.specs.Tags.{tooDeep}
-use Rattle.lists.specs.Lists.{lists, listsNeed}
+use Rattle.list_blocks.specs.Tags.{tooDeep}
+use Rattle.list_blocks.specs.Lists.{lists, listsNeed}
 
 -- of a text that is right, where m is the output's length
 unfoldable pub converted : (x : List Cell) → (m : ℕ) → Listed

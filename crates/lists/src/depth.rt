@@ -1,13 +1,13 @@
 // The limit of open lists.
-use crate::pass::rest_of;
-use crate::tag::Tag;
-use crate::tag::tag_at;
+use list_blocks::tag::Tag;
+use list_blocks::tag::tag_at;
+use list_steps::pass::rest_of;
 ghost use mathlib.Core.Path.{_≡_};
 ghost use Prim.Native.Nat.{_-_, _≤_};
 ghost use lib.ListN.{length};
 ghost use Rattle.text.specs.Cells.{cells};
-ghost use Rattle.lists.specs.Tags.{tooDeep};
-ghost use Rattle.lists.specs.Standing.{depthBy};
+ghost use Rattle.list_blocks.specs.Tags.{tooDeep};
+ghost use Rattle.list_steps.specs.Standing.{depthBy};
 
 // How many lists may be open.
 pub const LISTS_MOST: usize = 64;

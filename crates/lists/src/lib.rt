@@ -1,20 +1,24 @@
 // Lists to Carve text (document 01, "Lists").
+use depth::too_deep;
+use list_steps::pass::list_pass;
+use text::blank::number;
+use text::lent::Checked;
+use text::lent::Lent;
 use text::lent::Refusal;
+use text::lent::Spans;
+use text::lent::check;
 use text::write::lay_out;
 ghost use mathlib.Core.Path.{_≡_};
-ghost use Prim.Native.Nat.{_≤_};
+ghost use Prim.Native.Nat.{_+_, _-_, _*_, _≤_};
 ghost use mathlib.Core.List.{[]};
-ghost use lib.ListN.{length, take};
+ghost use lib.ListN.{length, take, drop};
+ghost use Rattle.text.specs.Cells.{cells, cellsOf};
 ghost use Rattle.text.specs.Writes.{LaidOut};
-ghost use Rattle.lists.specs.declared.Listed.the-variants.{Refused};
+ghost use Rattle.lists.specs.Calls.{Called, Converted};
+ghost use Rattle.list_blocks.specs.Tags.{tooDeep};
+ghost use Rattle.lists.specs.declared.Listed.the-variants.{Done, Refused};
 
-pub mod block;
-pub mod close;
 pub mod depth;
-pub mod item;
-pub mod pass;
-pub mod step;
-pub mod tag;
 
 // The length of the text, or why there is none.
 pub enum Listed {
@@ -40,4 +44,95 @@ fn refuse(r: Refusal, work: &[u8], numbers: &[u32], out: &mut [u8], origins: &mu
 {
     lay_out(work, numbers, 0, out, origins);
     Listed::Refused(r)
+}
+
+// Whether a list opener is met while 64 lists are open, in the first n cells.
+fn is_deep(n: usize, work: &[u8], numbers: &[u32]) -> bool
+    requires { ⌜ (n ≤ length (now work)) × (n ≤ length (now numbers)) ⌝ }
+    ensures { λ r. ⌜ r ≡ tooDeep (cells (take n (now (work .entry))) (take n (now (numbers .entry)))) ⌝ }
+{
+    too_deep(&work[..n], &numbers[..n])
+}
+
+// Lays out the cells from base up to r.
+fn lay_part(
+    base: usize,
+    r: usize,
+    work: &[u8],
+    numbers: &[u32],
+    out: &mut [u8],
+    origins: &mut [u32],
+) -> Listed
+    requires { ⌜ ((base ≤ r) × ((r ≤ length (now work)) × (r ≤ length (now numbers)))) × ((r ≤ base + length (now out)) × (length (now out) ≤ length (now origins))) ⌝ }
+    ensures { λ l. ⌜ (l ≡ Done (r - base)) × LaidOut (take (r - base) (cells (take (r - base) (drop base (now (work .entry)))) (take (r - base) (drop base (now (numbers .entry)))))) (length (now (out .entry))) (length (now (origins .entry))) (now (out .exit)) (now (origins .exit)) ⌝ }
+{
+    let size = r - base;
+    lay_out(&work[base..r], &numbers[base..r], size, out, origins);
+    Listed::Done(size)
+}
+
+// Converts a text that is right, in memory that is large enough.
+fn convert(
+    text: &[u8],
+    work: &mut [u8],
+    numbers: &mut [u32],
+    out: &mut [u8],
+    origins: &mut [u32],
+) -> Listed
+    requires { ⌜ ((length (now text) ≤ 262144) × ((length (now out) ≤ 16777216) × (length (now out) ≤ length (now origins)))) × ((length (now text) + length (now out) ≤ length (now work)) × ((2 * length (now text) + length (now out) ≤ length (now numbers)) × (length (now numbers) ≤ 4294967295))) ⌝ }
+    ensures { λ r. ⌜ Converted (now (text .entry)) (length (now (out .entry))) (length (now (origins .entry))) r (now (out .exit)) (now (origins .exit)) ⌝ }
+{
+    let n = text.len();
+    let end = n + out.len();
+    number(text, numbers);
+    set_source(text, work);
+    if is_deep(n, work, numbers) {
+        return refuse(Refusal::TooDeep, work, numbers, out, origins);
+    }
+    let r = list_pass(0, n, n, end, work, numbers, out, origins);
+    if end < r {
+        return refuse(Refusal::NoSpace, work, numbers, out, origins);
+    }
+    lay_part(n, r, work, numbers, out, origins)
+}
+
+// Lends the conversion as many numbers as document 01 asks for: more than a `u32` can count may be lent.
+fn convert_in(
+    text: &[u8],
+    work: &mut [u8],
+    numbers: &mut [u32],
+    out: &mut [u8],
+    origins: &mut [u32],
+) -> Listed
+    requires { ⌜ ((length (now text) ≤ 262144) × ((length (now out) ≤ 16777216) × (length (now out) ≤ length (now origins)))) × ((length (now text) + 3 * length (now out) ≤ length (now work)) × (8 * length (now text) + 3 * length (now out) + 64 ≤ length (now numbers))) ⌝ }
+    ensures { λ r. ⌜ Converted (now (text .entry)) (length (now (out .entry))) (length (now (origins .entry))) r (now (out .exit)) (now (origins .exit)) ⌝ }
+{
+    let used = 8 * text.len() + 3 * out.len() + 64;
+    convert(text, work, &mut numbers[..used], out, origins)
+}
+
+// Lists of a text: document 01's refusals 1 to 4, then 5, 6.
+pub fn convert_lists(
+    text: &[u8],
+    out: &mut [u8],
+    origins: &mut [u32],
+    work: &mut [u8],
+    numbers: &mut [u32],
+) -> Listed
+    ensures { λ r. ⌜ Called (now (text .entry)) (length (now (out .entry))) (length (now (origins .entry))) (length (now (work .entry))) (length (now (numbers .entry))) r (now (out .exit)) (now (origins .exit)) ⌝ }
+{
+    let checked = check(
+        text,
+        Lent {
+            out: out.len(),
+            origins: origins.len(),
+            work: work.len(),
+            numbers: numbers.len(),
+            spans: Spans::Without,
+        },
+    );
+    match checked {
+        Checked::Refused(r) => refuse(r, work, numbers, out, origins),
+        Checked::Fine => convert_in(text, work, numbers, out, origins),
+    }
 }

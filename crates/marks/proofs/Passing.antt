@@ -9,11 +9,11 @@ use lib.Seq.{take-all}
 use Rattle.text.specs.Cells.{Cell, cell, cells, bytes, cellsOf}
 use Rattle.text.proofs.Writing.{cells-short}
 use Rattle.text.proofs.Clearing.{cells-bytes}
-use Rattle.marks.specs.Marks as Marks
-use Rattle.marks.specs.Marks.{Items, end, text, gone, mark, Written, start, write, marks, merge, no-kinds, items}
-use Rattle.marks.specs.Flat.{view, within, flatMarks, flats, flatAt, slotsAt, held, slotAt, kindsOf, Fresh, Held, Itemed}
-use Rattle.marks.specs.Spans.{marksIn, Writes, Slot, SlotWritten}
-use Rattle.marks.proofs.Pieces.{cells-long}
+use Rattle.mark_tags.specs.Marks as Marks
+use Rattle.mark_tags.specs.Marks.{Items, end, text, gone, mark, Written, start, write, marks, merge, no-kinds, items}
+use Rattle.mark_tags.specs.Flat.{view, within, flatMarks, flats, flatAt, slotsAt, held, slotAt, kindsOf, Fresh, Held, Itemed}
+use Rattle.mark_writing.specs.Spans.{marksIn, Writes, Slot, SlotWritten}
+use Rattle.mark_tags.proofs.Pieces.{cells-long}
 use Rattle.marks.proofs.Flattening.{bare, view-marks, fresh-view, written-view}
 
 marks-bare : (t : Items) → marksIn (bare t) ≡ marksIn t

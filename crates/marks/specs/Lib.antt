@@ -1,4 +1,0 @@
-pub mod Marks
-pub mod Examples
-pub mod Flat
-pub mod Spans

@@ -1,8 +1,2 @@
-// Tags to marks: the marks pass.
-pub mod class;
-pub mod items;
-pub mod mark;
+// Tags to marks: the pass and the operation.
 pub mod pass;
-pub mod piece;
-pub mod slot;
-pub mod tags;

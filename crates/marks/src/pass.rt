@@ -1,13 +1,13 @@
 // The marks pass over a text: the written cells in a pair of slices, and the spans.
-use crate::items::read_items;
-use crate::slot::Went;
-use crate::slot::write_slot;
+use mark_tags::items::read_items;
+use mark_writing::slot::Went;
+use mark_writing::slot::write_slot;
 use text::TextAt;
 ghost use Prim.Native.Nat.{_+_, _*_, _≤_};
 ghost use lib.ListN.{length};
 ghost use Rattle.text.specs.Cells.{cells, cellsOf};
-ghost use Rattle.marks.specs.Marks.{marks, merge, no-kinds, items};
-ghost use Rattle.marks.specs.Spans.{marksIn, Writes};
+ghost use Rattle.mark_tags.specs.Marks.{marks, merge, no-kinds, items};
+ghost use Rattle.mark_writing.specs.Spans.{marksIn, Writes};
 
 // Where the text ends (past the end where it does not fit), and how many span numbers are listed.
 pub fn write_marks(

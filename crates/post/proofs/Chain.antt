@@ -4,10 +4,10 @@ use Prim.Native.Nat.{ℕ}
 use Rattle.text.specs.Cells.{Cell, cellsOf, bytes, origins}
 use Rattle.text.specs.Origins.{CopiedByOrigin}
 use Rattle.text.proofs.Copying.{Sound, sound-post, sound-split, copied-by-origin}
-use Rattle.marks.proofs.SplitMarks.{marks-split}
-use Rattle.attribution.specs.Attribution.{caption}
-use Rattle.quotes.proofs.QuotesSplit.{quotes-splits}
-use Rattle.lists.proofs.ListsSplit.{lists-splits}
+use Rattle.mark_tags.proofs.SplitMarks.{marks-split}
+use Rattle.attribution_parts.specs.Attribution.{caption}
+use Rattle.quote_blocks.proofs.QuotesSplit.{quotes-splits}
+use Rattle.list_steps.proofs.ListsSplit.{lists-splits}
 use Rattle.post.specs.Post.{marksText, quotedText, finished, takenOut, Consumed}
 
 pub finished-sound : (post : List ℕ) → Sound post (takenOut post) (finished post)

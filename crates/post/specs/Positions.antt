@@ -17,15 +17,15 @@ use Rattle.text.specs.Cells as Cells
 use Rattle.text.specs.Cells.{cellsOf, bytes}
 use Rattle.text.specs.Lines as Lines
 use Rattle.text.specs.Decimal as Decimal
-use Rattle.marks.specs.Marks as Marks
+use Rattle.mark_tags.specs.Marks as Marks
 use Rattle.day.specs.Day as Day
-use Rattle.attribution.specs.Parts as Parts
-use Rattle.attribution.specs.Attribution as Attribution
-use Rattle.quotes.specs.Tags as QuoteTags
-use Rattle.quotes.specs.Quotes as Quotes
-use Rattle.lists.specs.Tags as ListTags
-use Rattle.lists.specs.Blocks as Blocks
-use Rattle.lists.specs.Lists as Lists
+use Rattle.attribution_parts.specs.Parts as Parts
+use Rattle.attribution_parts.specs.Attribution as Attribution
+use Rattle.quote_lines.specs.Tags as QuoteTags
+use Rattle.quote_blocks.specs.Quotes as Quotes
+use Rattle.list_blocks.specs.Tags as ListTags
+use Rattle.list_blocks.specs.Blocks as Blocks
+use Rattle.list_blocks.specs.Lists as Lists
 
 pub data Operation : Type 0 where
   aMarks aLists aQuotes anAttribution aDay : Operation

@@ -11,11 +11,11 @@ use Prim.Native.Nat.{ℕ}
 use mathlib.Core.List.{List, _++_}
 use Rattle.text.specs.Cells.{Cell, cellsOf}
 use Rattle.text.specs.Origins.{StandsIn}
-use Rattle.marks.specs.Marks.{marks, takenMarks}
-use Rattle.attribution.specs.Attribution.{caption}
-use Rattle.quotes.specs.Quotes.{quotes, takenQuotes}
-use Rattle.lists.specs.Tags.{takenLists}
-use Rattle.lists.specs.Lists.{lists}
+use Rattle.mark_tags.specs.Marks.{marks, takenMarks}
+use Rattle.attribution_parts.specs.Attribution.{caption}
+use Rattle.quote_blocks.specs.Quotes.{quotes, takenQuotes}
+use Rattle.list_blocks.specs.Tags.{takenLists}
+use Rattle.list_blocks.specs.Lists.{lists}
 
 unfoldable pub marksText : List ℕ → List Cell
 marksText post = marks (cellsOf post) .cells

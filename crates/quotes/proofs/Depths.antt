@@ -8,10 +8,10 @@ use lib.ListN.{length, drop}
 use borrow.Author.Tests.{lt-ltb, le-ltb}
 use Rattle.text.specs.Ascii.{toBracket}
 use Rattle.text.specs.Cells.{Cell, bytes}
-use Rattle.quotes.specs.Tags.{NextBracket, openers, closers, openerSize, closerSize}
-use Rattle.quotes.specs.Quotes.{tokens, tooDeepFrom, tooDeep, DepthBehind, TooDeep}
-use Rattle.quotes.proofs.Tagging.{bracket-on}
-use Rattle.quotes.proofs.Reading.{read-opener, read-closer, read-text, read-end, behind-within, behind-bracket, deep-opener, deep-closer, deep-text}
+use Rattle.quote_lines.specs.Tags.{NextBracket, openers, closers, openerSize, closerSize}
+use Rattle.quote_blocks.specs.Quotes.{tokens, tooDeepFrom, tooDeep, DepthBehind, TooDeep}
+use Rattle.quote_lines.proofs.Tagging.{bracket-on, behind-within, behind-bracket}
+use Rattle.quote_blocks.proofs.Reading.{read-opener, read-closer, read-text, read-end, deep-opener, deep-closer, deep-text}
 
 -- ---- one token
 

@@ -9,15 +9,15 @@ use Rattle.text.specs.Ascii.{ascii, computes as asciiComputes}
 use Rattle.text.specs.Blanks.{computes as blanksCompute}
 use Rattle.text.specs.Cells.{Cell, cellsOf, bytes, origins, computes as cellsCompute}
 use Rattle.text.specs.Lines.{computes as linesCompute}
-use Rattle.quotes.specs.Tags.{computes as tagsCompute}
-use Rattle.quotes.specs.Quotes.{quotes, quotesNeed, tooDeep, takenQuotes, computes as quotesCompute}
-use Rattle.quotes.specs.Masks.{visible, computes as masksCompute}
-use Rattle.quotes.specs.Lines.{linesOf, computes as searchComputes}
+use Rattle.quote_lines.specs.Tags.{computes as tagsCompute}
+use Rattle.quote_blocks.specs.Quotes.{quotes, quotesNeed, tooDeep, takenQuotes, computes as quotesCompute}
+use Rattle.quote_lines.specs.Masks.{visible, computes as masksCompute}
+use Rattle.quote_lines.specs.Lines.{linesOf, computes as searchComputes}
 use Rattle.quotes.specs.Losses.{lossRecords, lossBytes, computes as lossesCompute}
 use Rattle.day.specs.Day.{computes as dayComputes}
-use Rattle.attribution.specs.Parts.{computes as partsCompute}
-use Rattle.attribution.specs.Attribution.{caption as attributionCaption, computes as attributionComputes}
-use Rattle.attribution.specs.Lists.{recordsOf, lossWords}
+use Rattle.attribution_parts.specs.Parts.{computes as partsCompute}
+use Rattle.attribution_parts.specs.Attribution.{caption as attributionCaption, computes as attributionComputes}
+use Rattle.attribution_losses.specs.Lists.{recordsOf, lossWords}
 
 -- ---- texts, with each attribution as its caption
 

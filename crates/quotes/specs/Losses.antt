@@ -9,10 +9,10 @@ use Prim.Native.Nat.{ℕ, suc, _+_}
 use mathlib.Core.List.{List, [], _∷_, _++_}
 use lib.ListN.{length}
 use Rattle.text.specs.Cells.{Cell}
-use Rattle.attribution.specs.Attribution.{Loss, losses}
-use Rattle.attribution.specs.Lists.{recordsOf, lossWords}
-use Rattle.quotes.specs.Quotes.{attributions}
-use Rattle.quotes.specs.Lines.{linesOf}
+use Rattle.attribution_parts.specs.Attribution.{Loss, losses}
+use Rattle.attribution_losses.specs.Lists.{recordsOf, lossWords}
+use Rattle.quote_blocks.specs.Quotes.{attributions}
+use Rattle.quote_lines.specs.Lines.{linesOf}
 
 unfoldable pub lossesIn : (names : List (List ℕ)) → List Loss
 lossesIn [] = []

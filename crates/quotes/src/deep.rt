@@ -1,14 +1,14 @@
 // Refusal 5: an opener met while 64 quotes are open. Counted over the whole text before anything is written.
-use crate::tag::bracket_from;
-use crate::tag::closer_size;
-use crate::tag::opener_size;
+use quote_lines::tag::bracket_from;
+use quote_lines::tag::closer_size;
+use quote_lines::tag::opener_size;
 use text::PostAt;
 use text::scan::next_bracket;
 ghost use mathlib.Core.Path.{_≡_};
 ghost use Prim.Native.Nat.{_≤_, _<_};
 ghost use lib.ListN.{length};
-ghost use Rattle.quotes.specs.Tags.{NextBracket};
-ghost use Rattle.quotes.specs.Quotes.{DepthBehind, TooDeep};
+ghost use Rattle.quote_lines.specs.Tags.{NextBracket};
+ghost use Rattle.quote_blocks.specs.Quotes.{DepthBehind, TooDeep};
 
 // How many quotes may be open.
 pub const QUOTES_MOST: usize = 64;

@@ -1,6 +1,2 @@
-// Quotes: blocks, captions, losses and their lines.
-pub mod content;
+// Quotes: the limit of open quotes, losses and their lines, the operation.
 pub mod deep;
-pub mod mask;
-pub mod search;
-pub mod tag;

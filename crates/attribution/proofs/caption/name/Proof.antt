@@ -7,7 +7,7 @@ use lib.ListN.{length, getD}
 use lib.Seq.{length-take-le}
 use native.Mathlib.Nat.{add-sub-cancel-left}
 use borrow.Author.Tests.{eq-eqb, ne-eqb}
-use Rattle.attribution.specs.Captions.{named}
+use Rattle.attribution_losses.specs.Captions.{named}
 use Rattle.attribution.proofs.caption.name.Statement.{statement}
 use Rattle.attribution.proofs.caption.name.Tie as tie
 use Rattle.attribution.proofs.caption.name.Reads as reads

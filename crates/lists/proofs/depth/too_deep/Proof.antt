@@ -7,15 +7,15 @@ use lib.ListN.{length, getD}
 use mathlib.Core.Bool.{true}
 use lib.ListN.{drop}
 use Rattle.lists.proofs.Depths.{depth-start, depth-size, depth-over, depth-goes, depth-end}
-use Rattle.lists.specs.Tags.{tokens, deeper, tooDeep}
+use Rattle.list_blocks.specs.Tags.{tokens, deeper, tooDeep}
 use Rattle.text.specs.Cells.{cells}
 use Rattle.lists.proofs.depth.too_deep.Statement.{statement}
 use Rattle.lists.proofs.depth.too_deep.Tie as tie
 use Rattle.lists.proofs.depth.too_deep.Reads as reads
 use Rattle.lists.proofs.depth.too_deep.Lts as lts
 use Rattle.lists.proofs.depth.depth_after.Reads as depth-after-reads
-use Rattle.lists.proofs.pass.rest_of.Reads as rest-of-reads
-use Rattle.lists.proofs.tag.tag_at.Reads as tag-at-reads
+use Rattle.list_steps.proofs.pass.rest_of.Reads as rest-of-reads
+use Rattle.list_blocks.proofs.tag.tag_at.Reads as tag-at-reads
 
 abbrev Inv-loop : tie.InvT-loop
 Inv-loop src from n depth₀ i₀ depth i = (n ≡ length src) × (i ≤ n) × (depth ≤ 64) × (tooDeep (cells src from) ≡ deeper depth (tokens 0 (drop i (cells src from))))

@@ -4,16 +4,16 @@ use mathlib.Core.Path.{_≡_, refl, sym, ap, _∙_}
 use Prim.Native.Nat.{ℕ, suc, _+_, _-_, _≤_, _<_}
 use mathlib.Core.List.{List, [], _∷_, _++_}
 use lib.ListN.{length, getD}
-use Rattle.quotes.specs.Tags.{openers, closers, openerSize, closerSize}
-use Rattle.quotes.proofs.Reading.{behind-within}
+use Rattle.quote_lines.specs.Tags.{openers, closers, openerSize, closerSize}
+use Rattle.quote_lines.proofs.Tagging.{behind-within}
 use Rattle.quotes.proofs.Depths.{depth-opener, depth-closer, depth-text}
 use Rattle.quotes.proofs.deep.depth_behind.Statement.{statement}
 use Rattle.quotes.proofs.deep.depth_behind.Tie as tie
 use Rattle.quotes.proofs.deep.depth_behind.Reads as reads
 use Rattle.quotes.proofs.deep.depth_behind.Lts as lts
-use Rattle.quotes.proofs.tag.bracket_from.Reads as bracket-from-reads
-use Rattle.quotes.proofs.tag.closer_size.Reads as closer-size-reads
-use Rattle.quotes.proofs.tag.opener_size.Reads as opener-size-reads
+use Rattle.quote_lines.proofs.tag.bracket_from.Reads as bracket-from-reads
+use Rattle.quote_lines.proofs.tag.closer_size.Reads as closer-size-reads
+use Rattle.quote_lines.proofs.tag.opener_size.Reads as opener-size-reads
 
 bracket-from-requires : tie.Need-bracket-from-requires
 bracket-from-requires c κs = search needs

@@ -5,7 +5,7 @@ use Prim.Native.Nat.{ℕ, suc, _+_, _-_, _≤_, _<_}
 use mathlib.Core.List.{List, [], _∷_, _++_}
 use lib.ListN.{length, getD}
 use Rattle.quotes.proofs.Depths.{Deepening, deepening, deep-end, deep-stop, deep-on}
-use Rattle.quotes.specs.Tags.{NextBracket}
+use Rattle.quote_lines.specs.Tags.{NextBracket}
 use Rattle.quotes.proofs.deep.is_too_deep.Statement.{statement}
 use Rattle.quotes.proofs.deep.is_too_deep.Tie as tie
 use Rattle.quotes.proofs.deep.is_too_deep.Reads as reads

@@ -1,0 +1,22 @@
+use borrow.Author.Needs.{needs}
+use native.Mathlib.Omega.{arith}
+use mathlib.Core.Path.{_≡_, refl, sym, ap, _∙_}
+use Prim.Native.Nat.{ℕ, suc, _+_, _-_, _≤_, _<_}
+use mathlib.Core.List.{List, [], _∷_, _++_}
+use lib.ListN.{length, getD}
+use Rattle.text.proofs.Decide.{decide}
+use Rattle.attribution_losses.proofs.loss.is_at.Statement.{statement}
+use Rattle.attribution_losses.proofs.loss.is_at.Tie as tie
+use Rattle.attribution_losses.proofs.loss.is_at.Reads as reads
+use Rattle.attribution_losses.proofs.loss.is_at.Lts as lts
+
+-- src/loss.rt:121:9
+returns : tie.Need-returns
+returns c = sym (search decide depth 12)
+
+-- src/loss.rt:117:1
+returns-2 : tie.Need-returns-2
+returns-2 c = sym (search decide depth 12)
+
+pub is-at-spec : {M : Type 1} → statement M
+is-at-spec = tie.close (tie.spec returns returns-2)

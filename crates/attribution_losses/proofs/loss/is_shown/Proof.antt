@@ -1,0 +1,27 @@
+use borrow.Author.Needs.{needs}
+use native.Mathlib.Omega.{arith}
+use mathlib.Core.Path.{_≡_, refl, sym, ap, _∙_}
+use Prim.Native.Nat.{ℕ, suc, _+_, _-_, _≤_, _<_}
+use mathlib.Core.List.{List, [], _∷_, _++_}
+use lib.ListN.{length, getD}
+use Rattle.text.proofs.Decide.{decide}
+use Rattle.attribution_losses.proofs.loss.is_shown.Statement.{statement}
+use Rattle.attribution_losses.proofs.loss.is_shown.Tie as tie
+use Rattle.attribution_losses.proofs.loss.is_shown.Reads as reads
+use Rattle.attribution_losses.proofs.loss.is_shown.Lts as lts
+use Rattle.attribution_losses.proofs.loss.is_at.Reads as is-at-reads
+
+-- src/loss.rt:130:8
+is-at-requires : tie.Need-is-at-requires
+is-at-requires c κs = search needs
+
+-- src/loss.rt:131:9
+returns : tie.Need-returns
+returns c = sym (search decide depth 12)
+
+-- src/loss.rt:127:1
+returns-2 : tie.Need-returns-2
+returns-2 c = sym (search decide depth 12)
+
+pub is-shown-spec : {M : Type 1} → statement M
+is-shown-spec = tie.close (tie.spec is-at-requires returns returns-2)

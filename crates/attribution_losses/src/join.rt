@@ -1,0 +1,86 @@
+// The joined texts, where they make the name: written behind the attribution in one slice.
+use crate::loss::put_byte;
+use attribution_parts::facts::leading_id;
+use attribution_parts::facts::read_fields;
+use attribution_parts::scan::scan_at;
+ghost use mathlib.Core.Path.{_≡_};
+ghost use mathlib.Core.Bool.{cond};
+ghost use mathlib.Core.List.{[]};
+ghost use Prim.Native.Nat.{_+_, _-_, _*_, _≤_, _<_};
+ghost use lib.Dec.{eqb, ltb};
+ghost use lib.ListN.{length, drop};
+ghost use Rattle.attribution_parts.specs.Parts.{parts};
+ghost use Rattle.attribution_parts.specs.Attribution.{textsOf};
+ghost use Rattle.attribution_parts.specs.Places.{bytes, Stands};
+ghost use Rattle.attribution_losses.specs.Captions.{added, nameTexts};
+ghost use Rattle.attribution_losses.specs.Lists.{Puts};
+
+// Puts bytes that stand before the place in the same slice.
+fn put_within(work: &mut [u8], from: usize, size: usize, at: usize) -> usize
+    requires { ⌜ (from + size ≤ at) × ((from + size ≤ length (now work)) × (at + size < 4294967296)) ⌝ }
+    ensures { λ r. ⌜ Puts (now (work .entry)) at (now (work .exit)) r (bytes (now (work .entry)) from size) ⌝ }
+{
+    let mut i: usize = 0;
+    let mut to = at;
+    while i < size {
+        let b = work[from + i];
+        to = put_byte(work, to, b);
+        i += 1;
+    }
+    to
+}
+
+// Puts one text more behind the joined texts that begin at `start`; a field adds nothing.
+fn put_more(
+    work: &mut [u8],
+    keylen: usize,
+    from: usize,
+    size: usize,
+    start: usize,
+    at: usize,
+) -> usize
+    requires { ⌜ (from + size ≤ at) × ((from + size ≤ length (now work)) × (at + 1 + size < 4294967296)) ⌝ }
+    ensures { λ r. ⌜ Puts (now (work .entry)) at (now (work .exit)) r (added (ltb start at) (cond (eqb keylen 0) (bytes (now (work .entry)) from size) [])) ⌝ }
+{
+    if keylen == 0 {
+        if size == 0 {
+            return at;
+        }
+        if start < at {
+            let e = put_byte(work, at, b' ');
+            return put_within(work, from, size, e);
+        }
+        return put_within(work, from, size, at);
+    }
+    at
+}
+
+// Joins the texts from the part that begins at `first` on.
+fn join_from(work: &mut [u8], a: usize, e: usize, first: usize, count: usize, at: usize) -> usize
+    requires { ⌜ ((a ≤ e) × ((e ≤ at) × (e ≤ length (now work)))) × ((at + 2 * (e - a) < 4294967296) × Stands (bytes (now work) a (e - a)) count first) ⌝ }
+    ensures { λ r. ⌜ Puts (now (work .entry)) at (now (work .exit)) r (textsOf (drop count (parts 0 (bytes (now (work .entry)) a (e - a))))) ⌝ }
+{
+    let mut pos = first;
+    let mut to = at;
+    while pos < e - a {
+        let p = scan_at(&work[a..e], pos);
+        to = put_more(work, p.keylen, a + p.from, p.size, at, to);
+        pos = p.next;
+    }
+    to
+}
+
+// Joins the texts of the attribution that stands from a up to e, where there is no name field, from `at` on. A place past the end says
+// that they did not fit.
+pub fn join_texts(work: &mut [u8], a: usize, e: usize, at: usize) -> usize
+    requires { ⌜ ((a ≤ e) × ((e ≤ at) × (e ≤ length (now work)))) × (at + 2 * (e - a) < 4294967296) ⌝ }
+    ensures { λ r. ⌜ Puts (now (work .entry)) at (now (work .exit)) r (nameTexts (bytes (now (work .entry)) a (e - a))) ⌝ }
+{
+    let fields = read_fields(&work[a..e]);
+    let name = fields.name;
+    if name.size != 0 {
+        return at;
+    }
+    let lead = leading_id(&work[a..e]);
+    join_from(work, a, e, lead.next, lead.count, at)
+}

@@ -1,0 +1,4 @@
+pub mod Laws
+pub mod Suffix
+pub mod Fielding
+pub mod Texts

@@ -1,0 +1,5 @@
+pub mod Parts
+pub mod Attribution
+pub mod Places
+pub mod Reads
+pub mod Examples

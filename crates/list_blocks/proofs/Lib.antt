@@ -1,0 +1,5 @@
+pub mod Values
+pub mod ItemLaws
+pub mod Markers
+pub mod ItemWriting
+pub mod BlockLaws

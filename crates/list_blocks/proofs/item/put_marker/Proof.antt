@@ -1,0 +1,72 @@
+use borrow.Author.Needs.{needs}
+use native.Mathlib.Omega.{arith}
+use mathlib.Core.Path.{_≡_, refl, sym, ap, _∙_}
+use Prim.Native.Nat.{ℕ, suc, _+_, _-_, _≤_, _<_}
+use mathlib.Core.List.{List, [], _∷_, _++_}
+use lib.ListN.{length, getD}
+use Rattle.list_blocks.proofs.Markers.{marker-plain, marker-ordered}
+use Rattle.list_blocks.proofs.item.put_marker.Statement.{statement}
+use Rattle.list_blocks.proofs.item.put_marker.Tie as tie
+use Rattle.list_blocks.proofs.item.put_marker.Reads as reads
+use Rattle.list_blocks.proofs.item.put_marker.Lts as lts
+use Rattle.list_blocks.proofs.item.marker_sign.Reads as marker-sign-reads
+use Rattle.text.proofs.write.put.Reads as put-reads
+use Rattle.text.proofs.write.put_decimal.Reads as put-decimal-reads
+use Rattle.text.proofs.write.put_sign.Reads as put-sign-reads
+
+put-decimal-requires : tie.Need-put-decimal-requires
+put-decimal-requires c κs = search needs
+
+marker-sign-requires : tie.Need-marker-sign-requires
+marker-sign-requires c κs = search needs
+
+put-sign-requires : tie.Need-put-sign-requires
+put-sign-requires c κs = search needs
+
+put-requires : tie.Need-put-requires
+put-requires c κs = search needs
+
+same-length : tie.Need-same-length
+same-length c = search needs
+
+same-length-2 : tie.Need-same-length-2
+same-length-2 c = search needs
+
+returns : tie.Need-returns
+returns c = marker-ordered _ _ _ (c .before .before .before .before .before .before .before .before .before .before .before .before .before .before .before .before .before .before .before .before .before .before .if1 .taken) (c .before .before .before .before .before .before .before .before .before .before .before .before .marker-sign .ensures) (c .before .before .before .before .before .before .before .before .before .before .before .before .before .before .before .before .before .before .before .put-decimal .ensures) (c .before .before .before .before .before .before .before .before .before .before .before .put-sign .ensures) (c .before .before .before .before .put .ensures)
+
+marker-sign-requires-2 : tie.Need-marker-sign-requires-2
+marker-sign-requires-2 c κs = search needs
+
+put-sign-requires-2 : tie.Need-put-sign-requires-2
+put-sign-requires-2 c κs = search needs
+
+put-requires-2 : tie.Need-put-requires-2
+put-requires-2 c κs = search needs
+
+same-length-3 : tie.Need-same-length-3
+same-length-3 c = search needs
+
+same-length-4 : tie.Need-same-length-4
+same-length-4 c = search needs
+
+returns-2 : tie.Need-returns-2
+returns-2 c = marker-plain _ _ _ (c .before .before .before .before .before .before .before .before .before .before .before .before .before .before .before .if1 .left) (c .before .before .before .before .before .before .before .before .before .before .before .before .marker-sign2 .ensures) (c .before .before .before .before .before .before .before .before .before .before .before .put-sign2 .ensures) (c .before .before .before .before .put2 .ensures)
+
+pub put-marker-spec : {M : Type 1} → statement M
+put-marker-spec =
+    tie.close
+    (tie.spec
+    put-decimal-requires
+    marker-sign-requires
+    put-sign-requires
+    put-requires
+    same-length
+    same-length-2
+    returns
+    marker-sign-requires-2
+    put-sign-requires-2
+    put-requires-2
+    same-length-3
+    same-length-4
+    returns-2)

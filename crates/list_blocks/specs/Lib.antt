@@ -1,0 +1,4 @@
+pub mod Tags
+pub mod Blocks
+pub mod Lists
+pub mod Examples

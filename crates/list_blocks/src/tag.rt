@@ -1,0 +1,76 @@
+// The list tags.
+use text::PostAt;
+use text::scan::begins_at;
+ghost use mathlib.Core.Path.{_≡_};
+ghost use Prim.Native.Nat.{_≤_};
+ghost use lib.ListN.{length, drop};
+ghost use Rattle.text.specs.Cells.{cells};
+ghost use Rattle.list_blocks.specs.Tags.{Skips, valued, tagAt};
+
+// The tag at a cell: `[list]` or, ordered, `[list=V]`, with the number of cells behind the `[`; `[*]`; `[/list]`; none.
+pub enum Tag {
+    Opener(usize, bool),
+    Item,
+    Closer,
+    Plain,
+}
+
+// The first place from i on with a `]` or a cell that is not blank, or the end. A value ends there: no later byte is looked at.
+fn skip_blank(src: &[u8], from: &[u32], i: usize) -> usize
+    requires { ⌜ (i ≤ length (now src)) × (length (now src) ≤ length (now from)) ⌝ }
+    ensures { λ r. ⌜ Skips (cells (now (src .entry)) (now (from .entry))) i r ⌝ }
+{
+    let mut r = i;
+    while r < src.len() {
+        if src[r] == b']' {
+            return r;
+        }
+        if from[r] % 2 != 1 {
+            return r;
+        }
+        r += 1;
+    }
+    r
+}
+
+// What a text that begins with `[list=` begins with.
+fn valued_at(src: &[u8], from: &[u32]) -> Tag
+    requires { ⌜ (6 ≤ length (now src)) × (length (now src) ≤ length (now from)) ⌝ }
+    ensures { λ r. ⌜ r ≡ valued (drop 6 (cells (now (src .entry)) (now (from .entry)))) ⌝ }
+{
+    let one = skip_blank(src, from, 6);
+    if src.len() <= one {
+        return Tag::Plain;
+    }
+    if src[one] != b'1' {
+        return Tag::Plain;
+    }
+    let end = skip_blank(src, from, one + 1);
+    if src.len() <= end {
+        return Tag::Plain;
+    }
+    if src[end] != b']' {
+        return Tag::Plain;
+    }
+    Tag::Opener(end, true)
+}
+
+// The tag that a text begins with.
+pub fn tag_at(src: &[u8], from: &[u32]) -> Tag
+    requires { ⌜ length (now src) ≤ length (now from) ⌝ }
+    ensures { λ r. ⌜ r ≡ tagAt (cells (now (src .entry)) (now (from .entry))) ⌝ }
+{
+    if begins_at(src, PostAt(0), b"[list]") {
+        return Tag::Opener(5, false);
+    }
+    if begins_at(src, PostAt(0), b"[list=") {
+        return valued_at(src, from);
+    }
+    if begins_at(src, PostAt(0), b"[*]") {
+        return Tag::Item;
+    }
+    if begins_at(src, PostAt(0), b"[/list]") {
+        return Tag::Closer;
+    }
+    Tag::Plain
+}

@@ -1,0 +1,356 @@
+-- A run of the list machine in the slices. Assumes nothing.
+use mathlib.Core.Path.{_≡_, refl, sym, ap, _∙_}
+use mathlib.Core.Bool.{Bool, true, false, cond, not, _&&_, true≢false}
+use mathlib.Core.List.{List, [], _∷_, _++_, append-nil, append-assoc}
+use Prim.Native.Nat.{ℕ, zero, suc, _+_, _-_, _≤_, _<_, max}
+use native.Mathlib.Omega.{arith}
+use native.Mathlib.Decide.{decLe}
+use lib.ListN.{length, take, drop, length-append, length-drop, length-map}
+use lib.Seq.{take-at, drop-at, take-take, drop-drop, length-slice, length-take-le, slice-empty}
+use lib.Dec.{ltb}
+use borrow.Author.Tests.{ltb-true}
+use Rattle.text.specs.Ascii.{ascii, begins, toBracket}
+use Rattle.text.specs.Cells.{Cell, cell, cells, bytes, part}
+use Rattle.text.specs.Lines.{trim}
+use Rattle.text.specs.Writes.{Holds}
+use Rattle.text.proofs.Writing.{cells-le, part-end}
+use Rattle.text.proofs.Areas.{area-length}
+use Rattle.list_blocks.specs.declared.tag.Tag.{Tag}
+use Rattle.list_blocks.specs.declared.tag.Tag.the-variants.{Opener, Item, Closer, Plain}
+use Rattle.list_blocks.specs.Tags.{Token, tagAt, valued, isOne, valueOf, tokenOf, restOf, tokens}
+use Rattle.list_blocks.specs.Blocks.{between}
+use Rattle.list_blocks.specs.Lists.{Open, State, nothing, close, started, closed, step, finish, run, lists, held, finishNeed, runNeed, listsNeed}
+use Rattle.list_steps.specs.Standing.{outers, contents, frames, Stands, Steps, Ready, closeInner, kept, stepBy, pushed, Running, Passed}
+use Rattle.list_steps.proofs.Needs.{tokens-skip, outers-held}
+use Rattle.list_steps.proofs.Standings.{stands-end, stands-text}
+use Rattle.list_blocks.proofs.Values.{begins-long}
+use Rattle.list_steps.proofs.Closes.{no-table}
+use Rattle.list_steps.proofs.Steppings.{some-table, part-take}
+
+-- ---- sizes
+
+abbrev sizeOf : State → ℕ
+sizeOf s = held (s .lists) + length (s .now)
+
+size-is : (s : State) → length (contents s) ≡ sizeOf s
+size-is s = length-append (outers (s .lists)) (s .now) ∙ ap (λ (k : ℕ). k + length (s .now)) (outers-held (s .lists))
+
+finish-least : (now : List Cell) (ls : List Open) → held ls + length now ≤ finishNeed now ls
+unfolding finishNeed held
+finish-least now [] = omega arith
+finish-least now (l ∷ ls) = omega arith
+
+need-least : (ks : List Token) (s : State) → sizeOf s ≤ runNeed ks s
+unfolding runNeed
+need-least [] s = finish-least (s .now) (s .lists)
+need-least (k ∷ ks) s = omega arith
+
+module _ (m : ℕ) (x before : List Cell) (bs ns : List ℕ) (base end at top first : ℕ) (second : Bool) (ks : List Token) (w : Running m x before bs ns end at top first second ks)
+    (lb : length before ≡ base) (area : base + m ≡ end) (fit : at ≤ end) (hb : end ≤ length bs) (hn : end ≤ length ns) where
+  now-fits : sizeOf (w .state) ≤ m
+  now-fits =
+      let e = stands-end before bs ns end at top first second (w .state) (w .holds) fit hb hn in
+      let n = length-append before (contents (w .state)) in
+      let z = size-is (w .state) in
+      omega arith
+
+  -- a step that does not change the end
+  module _ (ks' : List Token) (s' : State) (r : run ks (w .state) ≡ run ks' s') (n : runNeed ks (w .state) ≡ max (sizeOf (w .state)) (runNeed ks' s'))
+      (bs' ns' : List ℕ) (at' top' first' : ℕ) (second' : Bool) (h : Stands before bs' ns' end at' top' first' second' s') where
+    pub goes-on : Running m x before bs' ns' end at' top' first' second' ks'
+    goes-on =
+        let z = now-fits in
+        record {
+          state = s';
+          holds = h;
+          fits = λ g. (let k = w .fits g in omega arith);
+          needs = λ g. w .needs (omega arith);
+          same = w .same ∙ r;
+        }
+
+    pub overflows : end ≤ length bs' → end ≤ length ns' → end < at' → m < listsNeed x
+    overflows hb' hn' far =
+        let l = area-length bs' ns' end hb' hn' in
+        let c = length-append before (contents s') in
+        let z = size-is s' in
+        let y = need-least ks' s' in
+        let no-room : length (before ++ contents s') ≤ end → ⊥ = λ g. (let e = h .text .end (omega arith) in omega arith) in
+        let over : m < sizeOf s' = elim (decLe (sizeOf s') m) [ yes g ↦ absurd (no-room (omega arith)) | no g ↦ omega arith ] in
+        elim (decLe (listsNeed x) m) [ yes g ↦ absurd (let k = w .fits g in omega arith) | no g ↦ omega arith ]
+
+-- past the end
+pub passed-full : (m : ℕ) (x : List Cell) (base end : ℕ) (bs ns : List ℕ) (r : ℕ) → m < listsNeed x → end < r → Passed m x base end bs ns r
+passed-full m x base end bs ns r over far = record { done = λ h. absurd (omega arith); full = λ h. far }
+
+-- all is closed
+pub passed-done : (m : ℕ) (x before : List Cell) (bs ns : List ℕ) (base end at top first : ℕ) (second : Bool) (w : Running m x before bs ns end at top first second [])
+    → w .state .lists ≡ [] → length before ≡ base → base + m ≡ end → at ≤ end → end ≤ length bs → end ≤ length ns → Passed m x base end bs ns at
+unfolding run finish runNeed finishNeed outers part
+passed-done m x before bs ns base end at top first second w none lb area fit hb hn =
+    let r : lists x ≡ w .state .now = w .same ∙ ap (λ (ls : List Open). finish (w .state .now) ls) none in
+    let n : runNeed [] (w .state) ≡ length (w .state .now) = ap (λ (ls : List Open). finishNeed (w .state .now) ls) none in
+    let t : before ++ contents (w .state) ≡ before ++ w .state .now = ap (λ (ls : List Open). before ++ (outers ls ++ w .state .now)) none in
+    let e : at ≡ length (before ++ w .state .now) = stands-end before bs ns end at top first second (w .state) (w .holds) fit hb hn ∙ ap length t in
+    let l = length-append before (w .state .now) in
+    let q : take at (cells bs ns) ≡ before ++ w .state .now = stands-text before bs ns end at top first second (w .state) (w .holds) fit hb hn ∙ t in
+    record {
+      done = λ h. (rw r (omega arith), ap (drop base) q ∙ drop-at before (w .state .now) base lb ∙ sym r);
+      full = λ h. absurd (let k = w .needs (omega arith) in omega arith);
+    }
+
+-- ---- from slices to slices
+
+pub ready-next : {f : State → State} (bs ns bs' ns' : List ℕ) (base end at top first at' top' first' : ℕ) (second second' : Bool) → Ready bs ns base end at top first second
+    → Steps f base bs ns end at top first second bs' ns' at' top' first' second' → at' ≤ end → length bs' ≡ length bs → length ns' ≡ length ns → top' ≤ end + 67108864
+    → Ready bs' ns' base end at' top' first' second'
+ready-next {f} bs ns bs' ns' base end at top first at' top' first' second second' r p fit lb ln few =
+    let w = r .within in
+    record {
+      before = r .before;
+      state = f (r .state);
+      holds = p .step (r .before) (r .state) (r .begins) (r .holds);
+      begins = r .begins;
+      fits = fit;
+      within = (omega (arith, w .0), (omega (arith, w .1 .0), (omega (arith, w .1 .1 .0), few)));
+    }
+
+-- closing one list at the end
+module _ (m : ℕ) (x before : List Cell) (bs ns : List ℕ) (base end at top first : ℕ) (second : Bool) (w : Running m x before bs ns end at top first second [])
+    (lb : length before ≡ base) (area : base + m ≡ end) (fit : at ≤ end) (hb : end ≤ length bs) (hn : end ≤ length ns) (lt : end < top)
+    (bs' ns' : List ℕ) (at' top' first' : ℕ) (second' : Bool) (p : Steps closeInner base bs ns end at top first second bs' ns' at' top' first' second') where
+  close-run : (ls : List Open) → w .state .lists ≡ ls → run [] (w .state) ≡ run [] (closeInner (w .state))
+  unfolding run finish
+  close-run [] e = absurd (let n = no-table before bs ns end at top first second (w .state) e (w .holds) in omega arith)
+  close-run (l ∷ ls) e = rw e
+
+  close-need : (ls : List Open) → w .state .lists ≡ ls → runNeed [] (w .state) ≡ max (sizeOf (w .state)) (runNeed [] (closeInner (w .state)))
+  unfolding runNeed finishNeed
+  close-need [] e = absurd (let n = no-table before bs ns end at top first second (w .state) e (w .holds) in omega arith)
+  close-need (l ∷ ls) e = rw e
+
+  pub finish-turn : Running m x before bs' ns' end at' top' first' second' []
+  finish-turn =
+      goes-on m x before bs ns base end at top first second [] w lb area fit hb hn [] (closeInner (w .state)) (close-run (w .state .lists) refl) (close-need (w .state .lists) refl)
+      bs' ns' at' top' first' second' (p .step before (w .state) lb (w .holds))
+
+  pub finish-over : end ≤ length bs' → end ≤ length ns' → end < at' → m < listsNeed x
+  finish-over =
+      overflows m x before bs ns base end at top first second [] w lb area fit hb hn [] (closeInner (w .state)) (close-run (w .state .lists) refl) (close-need (w .state .lists) refl)
+      bs' ns' at' top' first' second' (p .step before (w .state) lb (w .holds))
+
+-- no list is open
+pub none-open : (before : List Cell) (bs ns : List ℕ) (end at top first : ℕ) (second : Bool) (s : State) → Stands before bs ns end at top first second s → top ≤ end → s .lists ≡ []
+none-open before bs ns end at top first second s h le = by (s .now) (s .second) (s .lists) h
+  where
+    by : (now : List Cell) (sec : Bool) (ls : List Open) → Stands before bs ns end at top first second (record { now = now; second = sec; lists = ls }) → ls ≡ []
+    by now sec [] h = refl
+    by now sec (l ∷ ls) h = absurd (let g = some-table before bs ns end at top first second now sec l ls h in omega arith)
+
+-- ---- a tag is within its text
+
+valued-size : (x : List Cell) → (restOf (valued x) ≤ 5 + length x) × (pushed (valued x) ≤ 1 + restOf (valued x))
+unfolding valued
+valued-size x = by (ltb (toBracket (bytes x)) (length x)) refl (isOne (trim (valueOf x)))
+  where
+    by : (t : Bool) → ltb (toBracket (bytes x)) (length x) ≡ t → (u : Bool)
+        → (restOf (cond (t && u) (Opener (6 + toBracket (bytes x)) true) Plain) ≤ 5 + length x)
+        × (pushed (cond (t && u) (Opener (6 + toBracket (bytes x)) true) Plain) ≤ 1 + restOf (cond (t && u) (Opener (6 + toBracket (bytes x)) true) Plain))
+    by true e true = let h = ltb-true (toBracket (bytes x)) (length x) e in (omega arith, omega arith)
+    by true e false = (omega arith, omega arith)
+    by false e u = (omega arith, omega arith)
+
+bytes-length : (x : List Cell) → length (bytes x) ≡ length x
+bytes-length x = length-map x (λ c. c .byte)
+
+pub tag-size : (y : List Cell) → 0 < length y → (1 + restOf (tagAt y) ≤ length y) × (pushed (tagAt y) ≤ 1 + restOf (tagAt y))
+unfolding tagAt
+tag-size y h = by₁ (begins (ascii "[list]") (bytes y)) refl
+  where
+    Fine : Tag → Type 0
+    Fine t = (1 + restOf t ≤ length y) × (pushed t ≤ 1 + restOf t)
+
+    by₄ : (t : Bool) → begins (ascii "[/list]") (bytes y) ≡ t → Fine (cond t Closer Plain)
+    by₄ true e = let n = begins-long (ascii "[/list]") (bytes y) e in let m = bytes-length y in (omega arith, omega arith)
+    by₄ false e = (omega arith, omega arith)
+
+    by₃ : (t : Bool) → begins (ascii "[*]") (bytes y) ≡ t → Fine (cond t Item (cond (begins (ascii "[/list]") (bytes y)) Closer Plain))
+    by₃ true e = let n = begins-long (ascii "[*]") (bytes y) e in let m = bytes-length y in (omega arith, omega arith)
+    by₃ false e = by₄ (begins (ascii "[/list]") (bytes y)) refl
+
+    by₂ : (t : Bool) → begins (ascii "[list=") (bytes y) ≡ t → Fine (cond t (valued (drop 6 y)) (cond (begins (ascii "[*]") (bytes y)) Item (cond (begins (ascii "[/list]") (bytes y)) Closer Plain)))
+    by₂ true e =
+        let n = begins-long (ascii "[list=") (bytes y) e in
+        let m = bytes-length y in
+        let d = length-drop 6 y in
+        let v = valued-size (drop 6 y) in
+        (omega (arith, v .0), v .1)
+    by₂ false e = by₃ (begins (ascii "[*]") (bytes y)) refl
+
+    by₁ : (t : Bool) → begins (ascii "[list]") (bytes y) ≡ t
+        → Fine (cond t (Opener 5 false) (cond (begins (ascii "[list=") (bytes y)) (valued (drop 6 y)) (cond (begins (ascii "[*]") (bytes y)) Item (cond (begins (ascii "[/list]") (bytes y)) Closer Plain))))
+    by₁ true e = let n = begins-long (ascii "[list]") (bytes y) e in let m = bytes-length y in (omega arith, omega arith)
+    by₁ false e = by₂ (begins (ascii "[list=") (bytes y)) refl
+
+-- ---- one token
+
+pub cells-taken : (k : ℕ) (bs ns : List ℕ) → cells (take k bs) (take k ns) ≡ take k (cells bs ns)
+unfolding cells
+cells-taken zero bs ns = refl
+cells-taken (suc k) [] ns = refl
+cells-taken (suc k) (b ∷ bs) [] = refl
+cells-taken (suc k) (b ∷ bs) (n ∷ ns) = ap (λ (l : List Cell). cell b n ∷ l) (cells-taken k bs ns)
+
+cells-none : (bs : List ℕ) → cells bs [] ≡ []
+unfolding cells
+cells-none [] = refl
+cells-none (b ∷ bs) = refl
+
+cells-dropped : (i : ℕ) (bs ns : List ℕ) → cells (drop i bs) (drop i ns) ≡ drop i (cells bs ns)
+unfolding cells
+cells-dropped zero bs ns = refl
+cells-dropped (suc i) [] ns = refl
+cells-dropped (suc i) (b ∷ bs) [] = cells-none (drop i bs)
+cells-dropped (suc i) (b ∷ bs) (n ∷ ns) = cells-dropped i bs ns
+
+pub cells-sub : (bs ns : List ℕ) (i k : ℕ) → cells (take k (drop i bs)) (take k (drop i ns)) ≡ take k (drop i (cells bs ns))
+cells-sub bs ns i k = cells-taken k (drop i bs) (drop i ns) ∙ ap (take k) (cells-dropped i bs ns)
+
+token-step : (t : Tag) (c : Cell) (x : List Cell) (s : State) → step (tokenOf t c x) s ≡ stepBy t (c ∷ x) s
+unfolding step
+token-step (Opener n o) c x s = refl
+token-step Item c x s = refl
+token-step Closer c x s = refl
+token-step Plain c x s = refl
+
+step-take : (t : Tag) (z : List Cell) (k : ℕ) (s : State) → 1 + restOf t ≤ k → stepBy t (take k z) s ≡ stepBy t z s
+step-take (Opener n o) z k s h = refl
+step-take Item z k s h = ap (λ (l : List Cell). started l s (s .lists)) (take-take 3 k z h)
+step-take Closer z k s h = ap (λ (l : List Cell). closed l s (s .lists)) (take-take 7 k z h)
+step-take Plain z k s h = ap (λ (l : List Cell). kept l s) (take-take 1 k z h)
+
+turn-run : (y : List Cell) → 0 < length y → (s : State) → run (tokens 0 y) s ≡ run (tokens 0 (drop (suc (restOf (tagAt y))) y)) (stepBy (tagAt y) y s)
+unfolding tokens run
+turn-run [] h s = absurd (omega arith)
+turn-run (c ∷ x) h s =
+    ap (λ (ks : List Token). run ks (step (tokenOf (tagAt (c ∷ x)) c x) s)) (tokens-skip (restOf (tagAt (c ∷ x))) x)
+    ∙ ap (λ (z : State). run (tokens 0 (drop (restOf (tagAt (c ∷ x))) x)) z) (token-step (tagAt (c ∷ x)) c x s)
+
+turn-need : (y : List Cell) → 0 < length y → (s : State)
+    → runNeed (tokens 0 y) s ≡ max (sizeOf s) (runNeed (tokens 0 (drop (suc (restOf (tagAt y))) y)) (stepBy (tagAt y) y s))
+unfolding tokens runNeed
+turn-need [] h s = absurd (omega arith)
+turn-need (c ∷ x) h s =
+    ap (λ (ks : List Token). max (sizeOf s) (runNeed ks (step (tokenOf (tagAt (c ∷ x)) c x) s))) (tokens-skip (restOf (tagAt (c ∷ x))) x)
+    ∙ ap (λ (z : State). max (sizeOf s) (runNeed (tokens 0 (drop (restOf (tagAt (c ∷ x))) x)) z)) (token-step (tagAt (c ∷ x)) c x s)
+
+module _ (m : ℕ) (x before : List Cell) (bs ns : List ℕ) (base end at top first : ℕ) (second : Bool) (i e : ℕ)
+    (w : Running m x before bs ns end at top first second (tokens 0 (part i e before)))
+    (lb : length before ≡ base) (area : base + m ≡ end) (fit : at ≤ end) (hb : end ≤ length bs) (hn : end ≤ length ns) (lt : i < e) (le : e ≤ base)
+    (tag : Tag) (q : tag ≡ tagAt (cells (take (e - i) (drop i bs)) (take (e - i) (drop i ns)))) where
+  base-at : base ≤ at
+  base-at =
+      let n = stands-end before bs ns end at top first second (w .state) (w .holds) fit hb hn in
+      let k = length-append before (contents (w .state)) in
+      omega arith
+
+  source : take base (cells bs ns) ≡ before
+  source =
+      sym (take-take base at (cells bs ns) base-at) ∙ ap (take base) (stands-text before bs ns end at top first second (w .state) (w .holds) fit hb hn)
+      ∙ take-at before (contents (w .state)) base lb
+
+  in-cells : i ≤ length (cells bs ns)
+  in-cells = let b = base-at in cells-le bs ns i (omega arith) (omega arith)
+
+  rest-is : part i e before ≡ take (e - i) (drop i (cells bs ns))
+  unfolding part
+  rest-is =
+      let n : e ≡ i + (e - i) = omega arith in
+      ap (λ (l : List Cell). drop i (take e l)) (sym source) ∙ ap (drop i) (take-take e base (cells bs ns) le)
+      ∙ ap (λ (k : ℕ). drop i (take k (cells bs ns))) n ∙ part-take (cells bs ns) i (e - i) in-cells
+
+  tag-is : tag ≡ tagAt (part i e before)
+  tag-is = q ∙ ap tagAt (cells-sub bs ns i (e - i) ∙ sym rest-is)
+
+  rest-length : length (part i e before) ≡ e - i
+  unfolding part
+  rest-length = length-slice i e before (omega arith)
+
+  pub turn-size : (i + (1 + restOf tag) ≤ e) × (pushed tag ≤ 1 + restOf tag)
+  turn-size =
+      let n = rest-length in
+      let s = tag-size (part i e before) (omega arith) in
+      rw tag-is (omega (arith, s .0), s .1)
+
+  next-is : drop (suc (restOf tag)) (part i e before) ≡ part (i + restOf tag + 1) e before
+  unfolding part
+  next-is = drop-drop (suc (restOf tag)) i (take e before) ∙ (let n : i + suc (restOf tag) ≡ i + restOf tag + 1 = omega arith in ap (λ (k : ℕ). drop k (take e before)) n)
+
+  next : State
+  next = stepBy tag (drop i (cells bs ns)) (w .state)
+
+  same-step : stepBy (tagAt (part i e before)) (part i e before) (w .state) ≡ stepBy tag (drop i (cells bs ns)) (w .state)
+  same-step =
+      let z = turn-size .0 in
+      rw (← tag-is, rest-is) (step-take tag (drop i (cells bs ns)) (e - i) (w .state) (omega arith))
+
+  goes : run (tokens 0 (part i e before)) (w .state) ≡ run (tokens 0 (part (i + restOf tag + 1) e before)) (stepBy tag (drop i (cells bs ns)) (w .state))
+  goes =
+      let n = rest-length in
+      turn-run (part i e before) (omega arith) (w .state) ∙ rw (same-step, ← tag-is, next-is)
+
+  needed : runNeed (tokens 0 (part i e before)) (w .state) ≡ max (sizeOf (w .state)) (runNeed (tokens 0 (part (i + restOf tag + 1) e before)) (stepBy tag (drop i (cells bs ns)) (w .state)))
+  needed =
+      let n = rest-length in
+      turn-need (part i e before) (omega arith) (w .state) ∙ rw (same-step, ← tag-is, next-is)
+
+  module _ (bs' ns' : List ℕ) (at' top' first' : ℕ) (second' : Bool) (p : Steps (stepBy tag (drop i (cells bs ns))) base bs ns end at top first second bs' ns' at' top' first' second') where
+    pub turn-goes : Running m x before bs' ns' end at' top' first' second' (tokens 0 (part (i + restOf tag + 1) e before))
+    turn-goes =
+        goes-on m x before bs ns base end at top first second (tokens 0 (part i e before)) w lb area fit hb hn _ (stepBy tag (drop i (cells bs ns)) (w .state)) goes needed
+        bs' ns' at' top' first' second' (p .step before (w .state) lb (w .holds))
+
+    pub turn-over : end ≤ length bs' → end ≤ length ns' → end < at' → m < listsNeed x
+    turn-over =
+        overflows m x before bs ns base end at top first second (tokens 0 (part i e before)) w lb area fit hb hn (tokens 0 (part (i + restOf tag + 1) e before))
+        (stepBy tag (drop i (cells bs ns)) (w .state)) goes needed bs' ns' at' top' first' second' (p .step before (w .state) lb (w .holds))
+
+-- ---- the whole
+
+-- at the start
+pub running-start : (bs ns : List ℕ) (m a e base end : ℕ) → e ≤ base → base ≤ end → end ≤ length bs → end ≤ length ns
+    → Running m (part a e (cells bs ns)) (take base (cells bs ns)) bs ns end base end end false (tokens 0 (part a e (take base (cells bs ns))))
+unfolding outers frames part between lists listsNeed
+running-start bs ns m a e base end le area hb hn =
+    let l : length (take base (cells bs ns)) ≡ base = length-take-le base (cells bs ns) (cells-le bs ns base (omega arith) (omega arith)) in
+    let x : drop a (take e (take base (cells bs ns))) ≡ drop a (take e (cells bs ns)) = ap (drop a) (take-take e base (cells bs ns) le) in
+    record {
+      state = nothing;
+      holds = record {
+        text = record {
+          end = λ _. (rw (append-nil (take base (cells bs ns))) (sym l));
+          text = λ _. (rw (append-nil (take base (cells bs ns))) (take-take base end (cells bs ns) area));
+          full = λ g. absurd (let n = area-length bs ns end hb hn in let k = length-append (take base (cells bs ns)) [] in omega arith);
+        };
+        table = slice-empty end ns;
+        reaches = (omega arith, hn);
+        frame = refl;
+        turn = refl;
+      };
+      fits = λ g. rw x g;
+      needs = λ g. rw x at g;
+      same = rw x;
+    }
+
+-- at the end of the source
+pub running-end : (m : ℕ) (x before : List Cell) (bs ns : List ℕ) (end at top first : ℕ) (second : Bool) (i e : ℕ) → e ≤ i
+    → Running m x before bs ns end at top first second (tokens 0 (part i e before)) → Running m x before bs ns end at top first second []
+unfolding tokens
+running-end m x before bs ns end at top first second i e h w = rw (part-end i e before h) at w
+
+pub running-ready : (m : ℕ) (x before : List Cell) (bs ns : List ℕ) (base end at top first : ℕ) (second : Bool) (ks : List Token) → Running m x before bs ns end at top first second ks
+    → length before ≡ base → at ≤ end → end ≤ length bs → end ≤ length ns → length ns ≤ 4294967295 → top ≤ end + 67108864 → Ready bs ns base end at top first second
+running-ready m x before bs ns base end at top first second ks w lb fit hb hn short few =
+    record { before = before; state = w .state; holds = w .holds; begins = lb; fits = fit; within = (hb, (hn, (short, few))) }
+
+pub before-length : (bs ns : List ℕ) (base end : ℕ) → base ≤ end → end ≤ length bs → end ≤ length ns → length (take base (cells bs ns)) ≡ base
+before-length bs ns base end h hb hn = length-take-le base (cells bs ns) (cells-le bs ns base (omega arith) (omega arith))

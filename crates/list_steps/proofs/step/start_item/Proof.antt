@@ -1,0 +1,59 @@
+use borrow.Author.Needs.{needs}
+use native.Mathlib.Omega.{arith}
+use mathlib.Core.Path.{_≡_, refl, sym, ap, _∙_}
+use Prim.Native.Nat.{ℕ, suc, _+_, _-_, _≤_, _<_}
+use mathlib.Core.List.{List, [], _∷_, _++_}
+use lib.ListN.{length, getD}
+use lib.ListN.{drop}
+use Rattle.text.specs.Cells.{cells}
+use Rattle.list_steps.proofs.Steppings.{stray-item, counting-item}
+use Rattle.list_steps.proofs.step.start_item.Statement.{statement}
+use Rattle.list_steps.proofs.step.start_item.Tie as tie
+use Rattle.list_steps.proofs.step.start_item.Reads as reads
+use Rattle.list_steps.proofs.step.start_item.Lts as lts
+use Rattle.list_steps.proofs.step.keep.Reads as keep-reads
+
+keep-requires : tie.Need-keep-requires
+keep-requires c κs = search needs
+
+same-length : tie.Need-same-length
+same-length c = search needs
+
+same-length-2 : tie.Need-same-length-2
+same-length-2 c = search needs
+
+returns : tie.Need-returns
+returns c = let x = c .before .before .before .before .before .before .before .before .before .before .args in (stray-item (drop (x .i) (cells (x .work .now) (x .numbers .now))) _ _ _ _ _ _ _ _ _ _ _ _ _ _ (c .before .before .before .before .before .before .before .if1 .taken) (c .before .before .before .before .keep .ensures .0), omega (arith, c .before .before .before .before .keep .ensures .1))
+
+cast-numbers : tie.Need-cast-numbers
+cast-numbers c = search needs
+
+mul-numbers : tie.Need-mul-numbers
+mul-numbers c = search needs
+
+slice-write-numbers : tie.Need-slice-write-numbers
+slice-write-numbers c = search needs
+
+add-t16 : tie.Need-add-t16
+add-t16 c = search needs
+
+same-length-3 : tie.Need-same-length-3
+same-length-3 c = search needs
+
+returns-2 : tie.Need-returns-2
+returns-2 c = let p = c .before .before .before .pre in let x = c .before .before .before .args in let r = p .0 .holds .reaches in (counting-item (drop (x .i) (cells (x .work .now) (x .numbers .now))) _ _ _ _ _ _ _ _ (omega (arith, r .0, c .if1 .left)) (omega (arith, p .1 .1)) (p .0 .fits) (p .0 .within .0), omega arith)
+
+pub start-item-spec : {M : Type 1} → statement M
+start-item-spec =
+    tie.close
+    (tie.spec
+    keep-requires
+    same-length
+    same-length-2
+    returns
+    cast-numbers
+    mul-numbers
+    slice-write-numbers
+    add-t16
+    same-length-3
+    returns-2)

@@ -1,0 +1,105 @@
+use borrow.Author.Needs.{needs}
+use native.Mathlib.Omega.{arith}
+use mathlib.Core.Path.{_≡_, refl, sym, ap, _∙_}
+use Prim.Native.Nat.{ℕ, suc, _+_, _-_, _≤_, _<_}
+use mathlib.Core.List.{List, [], _∷_, _++_}
+use lib.ListN.{length, getD}
+use Rattle.list_steps.proofs.Steppings.{ready-first, ready-base, room-of, size-of}
+use Rattle.list_blocks.specs.declared.tag.Tag.the-variants.{Opener, Item, Closer, Plain}
+use Rattle.list_steps.proofs.step.step.Statement.{statement}
+use Rattle.list_steps.proofs.step.step.Tie as tie
+use Rattle.list_steps.proofs.step.step.Reads as reads
+use Rattle.list_steps.proofs.step.step.Lts as lts
+use Rattle.list_steps.proofs.step.end_list.Reads as end-list-reads
+use Rattle.list_steps.proofs.step.keep.Reads as keep-reads
+use Rattle.list_steps.proofs.step.open_list.Reads as open-list-reads
+use Rattle.list_steps.proofs.step.start_item.Reads as start-item-reads
+
+enum-known-tag : tie.Need-enum-known-tag
+enum-known-tag c = search needs
+
+open-list-requires : tie.Need-open-list-requires
+open-list-requires c κs = let p = c .before .before .before .before .before .before .before .before .pre in let f = ready-first _ _ _ _ _ _ _ _ (p .0) in let w = p .0 .within in (omega (arith, p .0 .fits, w .1 .0, w .1 .1 .0), (omega (arith, f, w .1 .1 .0), (room-of _ _ (c .before .before .tag .given .1) 0 0 _ _ (p .1 .1 .0), w .1 .1 .0)))
+
+enum-told : tie.Need-enum-told
+enum-told c = search needs
+
+start-item-requires : tie.Need-start-item-requires
+start-item-requires c κs = let p = c .before .before .before .before .before .before .before .before .pre in let e = c .before .before .enum-told .given .1 in (p .0, (size-of _ _ e _ _ 0 0 (p .1 .0), room-of _ _ e 0 0 _ _ (p .1 .1 .0)))
+
+enum-told-2 : tie.Need-enum-told-2
+enum-told-2 c = search needs
+
+end-list-requires : tie.Need-end-list-requires
+end-list-requires c κs = let p = c .before .before .before .before .before .before .before .before .before .before .pre in let e = c .before .before .before .before .enum-told2 .given .1 in (p .0, (size-of _ _ e _ _ 0 0 (p .1 .0), p .1 .1 .1))
+
+enum-told-3 : tie.Need-enum-told-3
+enum-told-3 c = search needs
+
+keep-requires : tie.Need-keep-requires
+keep-requires c κs = let p = c .before .before .before .before .before .before .before .before .pre in let e = c .before .before .enum-told3 .given .1 in (p .0, size-of _ _ e _ _ 0 0 (p .1 .0))
+
+same-length : tie.Need-same-length
+same-length c = search needs
+
+returns : tie.Need-returns
+returns c = let p = c .before .before .before .before .before .before .before .before .before .before .before .pre in rw (c .before .before .before .before .before .tag .given .1) (c .before .before .open-list .ensures .0 0 _ _ _ [] (p .0 .fits) (p .0 .within .0), omega (arith, c .before .before .open-list .ensures .1))
+
+same-length-2 : tie.Need-same-length-2
+same-length-2 c = search needs
+
+same-length-3 : tie.Need-same-length-3
+same-length-3 c = search needs
+
+returns-2 : tie.Need-returns-2
+returns-2 c = rw (c .before .before .before .before .before .before .before .enum-told .given .1) (c .before .before .before .before .start-item .ensures)
+
+same-length-4 : tie.Need-same-length-4
+same-length-4 c = search needs
+
+same-length-5 : tie.Need-same-length-5
+same-length-5 c = search needs
+
+same-length-6 : tie.Need-same-length-6
+same-length-6 c = search needs
+
+same-length-7 : tie.Need-same-length-7
+same-length-7 c = search needs
+
+returns-3 : tie.Need-returns-3
+returns-3 c = rw (c .before .before .before .before .before .before .before .before .before .before .before .before .before .enum-told2 .given .1) (c .before .before .before .before .before .before .before .before .end-list .ensures .0, omega (arith, c .before .before .before .before .before .before .before .before .end-list .ensures .1))
+
+same-length-8 : tie.Need-same-length-8
+same-length-8 c = search needs
+
+same-length-9 : tie.Need-same-length-9
+same-length-9 c = search needs
+
+returns-4 : tie.Need-returns-4
+returns-4 c = rw (c .before .before .before .before .before .before .before .enum-told3 .given .1) (c .before .before .before .before .keep .ensures .0, omega (arith, c .before .before .before .before .keep .ensures .1))
+
+pub step-spec : {M : Type 1} → statement M
+step-spec =
+    tie.close
+    (tie.spec
+    enum-known-tag
+    open-list-requires
+    enum-told
+    start-item-requires
+    enum-told-2
+    end-list-requires
+    enum-told-3
+    keep-requires
+    same-length
+    returns
+    same-length-2
+    same-length-3
+    returns-2
+    same-length-4
+    same-length-5
+    same-length-6
+    same-length-7
+    returns-3
+    same-length-8
+    same-length-9
+    returns-4)

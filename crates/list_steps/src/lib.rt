@@ -1,0 +1,4 @@
+// Lists to Carve text: taking one token after another, and closing what is open.
+pub mod close;
+pub mod pass;
+pub mod step;

@@ -1,0 +1,89 @@
+// The list pass on cells that are handed on.
+use crate::close::Machine;
+use crate::close::close_list;
+use crate::step::step;
+use list_blocks::tag::Tag;
+use list_blocks::tag::tag_at;
+ghost use mathlib.Core.Path.{_≡_};
+ghost use mathlib.Core.List.{List, []};
+ghost use Prim.Native.Nat.{_+_, _-_, _≤_};
+ghost use lib.ListN.{length};
+ghost use Rattle.text.specs.Cells.{Cell, cells, part};
+ghost use Rattle.list_blocks.specs.Tags.{restOf};
+ghost use Rattle.list_steps.specs.Standing.{Ready, Running, Passed};
+
+// The place past every slice's end.
+const FULL: usize = 0xffff_ffff_ffff_ffff;
+
+// Closes all open lists, innermost first. The place behind the text, past the end where it did not fit.
+fn finish_lists(
+    from: Machine,
+    base: usize,
+    end: usize,
+    work: &mut [u8],
+    numbers: &mut [u32],
+    out: &mut [u8],
+    origins: &mut [u32],
+) -> usize
+    requires { ⌜ Ready (now work) (now numbers) base end (from .at) (from .top) (from .first) (from .second) × ((base + length (now out) ≡ end) × (length (now out) ≤ length (now origins))) ⌝ }
+    ensures { λ r. ⌜ ((x before : List Cell) → length before ≡ base → Running (length (now (out .entry))) x before (now (work .entry)) (now (numbers .entry)) end (from .at) (from .top) (from .first) (from .second) [] → Passed (length (now (out .entry))) x base end (now (work .exit)) (now (numbers .exit)) r) ⌝ }
+{
+    let mut st = from;
+    let mut top = from.top;
+    while end < top {
+        st = close_list(st, base, end, work, numbers, out, origins);
+        let at = st.at;
+        if end < at {
+            return FULL;
+        }
+        top = st.top;
+    }
+    st.at
+}
+
+// How many cells a tag has behind its first.
+pub fn rest_of(tag: Tag) -> usize
+    ensures { λ r. ⌜ r ≡ restOf tag ⌝ }
+{
+    match tag {
+        Tag::Opener(n, _) => n,
+        Tag::Item => 2,
+        Tag::Closer => 6,
+        Tag::Plain => 0,
+    }
+}
+
+// The list pass on the cells from a up to e of the pair (work, numbers). All open contents stand in the same pair from base up to end, as
+// many cells as out has, and the table behind them. The place behind the text, past the end where its need is more.
+pub fn list_pass(
+    a: usize,
+    e: usize,
+    base: usize,
+    end: usize,
+    work: &mut [u8],
+    numbers: &mut [u32],
+    out: &mut [u8],
+    origins: &mut [u32],
+) -> usize
+    requires { ⌜ ((a ≤ e) × ((e ≤ base) × (e ≤ a + 16777216))) × (((base + length (now out) ≡ end) × (length (now out) ≤ length (now origins))) × ((end ≤ length (now work)) × ((end + (e - a) ≤ length (now numbers)) × (length (now numbers) ≤ 4294967295)))) ⌝ }
+    ensures { λ r. ⌜ Passed (length (now (out .entry))) (part a e (cells (now (work .entry)) (now (numbers .entry)))) base end (now (work .exit)) (now (numbers .exit)) r ⌝ }
+{
+    let mut st = Machine {
+        at: base,
+        top: end,
+        first: end,
+        second: false,
+    };
+    let mut i = a;
+    while i < e {
+        let tag = tag_at(&work[i..e], &numbers[i..e]);
+        let n = rest_of(tag);
+        st = step(tag, i, st, base, end, work, numbers, out, origins);
+        let at = st.at;
+        if end < at {
+            return FULL;
+        }
+        i = i + n + 1;
+    }
+    finish_lists(st, base, end, work, numbers, out, origins)
+}

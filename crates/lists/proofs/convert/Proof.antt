@@ -1,0 +1,144 @@
+use borrow.Author.Needs.{needs}
+use native.Mathlib.Omega.{arith}
+use mathlib.Core.Path.{_≡_, refl, sym, ap, _∙_}
+use Prim.Native.Nat.{ℕ, suc, _+_, _-_, _≤_, _<_}
+use mathlib.Core.List.{List, [], _∷_, _++_}
+use lib.ListN.{length, getD}
+use lib.ListN.{take}
+use Rattle.lists.proofs.Conversion.{source-front, source-part, called-deep, called-full, called-done, passed-up}
+use Rattle.text.proofs.Writing.{cells-le}
+use Rattle.text.specs.Cells.{cells}
+use Rattle.lists.proofs.convert.Statement.{statement}
+use Rattle.lists.proofs.convert.Tie as tie
+use Rattle.lists.proofs.convert.Reads as reads
+use Rattle.lists.proofs.convert.Lts as lts
+use Rattle.lists.proofs.is_deep.Reads as is-deep-reads
+use Rattle.lists.proofs.lay_part.Reads as lay-part-reads
+use Rattle.list_steps.proofs.pass.list_pass.Reads as list-pass-reads
+use Rattle.lists.proofs.refuse.Reads as refuse-reads
+use Rattle.lists.proofs.set_source.Reads as set-source-reads
+use Rattle.text.proofs.blank.number.Reads as number-reads
+
+add-end : tie.Need-add-end
+add-end c = search needs
+
+number-requires : tie.Need-number-requires
+number-requires c κs = search needs
+
+set-source-requires : tie.Need-set-source-requires
+set-source-requires c κs = search needs
+
+is-deep-requires : tie.Need-is-deep-requires
+is-deep-requires c κs = search needs
+
+refuse-requires : tie.Need-refuse-requires
+refuse-requires c κs = search needs
+
+same-length : tie.Need-same-length
+same-length c = search needs
+
+same-length-2 : tie.Need-same-length-2
+same-length-2 c = search needs
+
+same-length-3 : tie.Need-same-length-3
+same-length-3 c = search needs
+
+same-length-4 : tie.Need-same-length-4
+same-length-4 c = search needs
+
+returns : tie.Need-returns
+returns c =
+    called-deep _ _ _ _ _ _ (source-front _ _ _ _ refl (c .before .before .before .before .before .before .before .before .before .before .before .before .before .before .before .set-source .ensures) (c .before .before .before .before .before .before .before .before .before .before .before .before .before .before .before .before .before .before .before .number .ensures)) (c .before .before .before .before .before .before .before .before .before .before .is-deep .ensures) (c .before .before .before .before .before .before .before .before .before .if1 .taken)
+    (c .before .before .before .before .refuse .ensures .0) (c .before .before .before .before .refuse .ensures .1)
+
+list-pass-requires : tie.Need-list-pass-requires
+list-pass-requires c κs = search needs
+
+refuse-requires-2 : tie.Need-refuse-requires-2
+refuse-requires-2 c κs = search needs
+
+same-length-5 : tie.Need-same-length-5
+same-length-5 c = search needs
+
+same-length-6 : tie.Need-same-length-6
+same-length-6 c = search needs
+
+same-length-7 : tie.Need-same-length-7
+same-length-7 c = search needs
+
+same-length-8 : tie.Need-same-length-8
+same-length-8 c = search needs
+
+returns-2 : tie.Need-returns-2
+returns-2 c =
+    let hb = c .before .before .before .before .before .before .before .before .before .before .before .before .before .before .before .before .before .before .before .before .before .before .before .before .before .before .before .before .before .set-source .ensures in
+    let hn = c .before .before .before .before .before .before .before .before .before .before .before .before .before .before .before .before .before .before .before .before .before .before .before .before .before .before .before .before .before .before .before .before .before .number .ensures in
+    let p = c .before .before .before .before .before .before .before .before .before .before .before .before .before .before .before .before .before .before in
+    called-full _ _ _ _ _ _ _ _ _ _ _ (source-front _ _ _ _ refl hb hn) (source-part _ _ _ _ refl hb hn) (c .before .before .before .before .before .before .before .before .before .before .before .before .before .before .before .before .before .before .before .before .before .before .before .before .is-deep .ensures) (c .before .before .before .before .before .before .before .before .before .before .before .before .before .before .before .before .before .before .before .before .before .before .before .if1 .left) refl (p .list-pass .ensures)
+    _ (c .before .before .before .before .before .before .before .before .before .if2 .taken) (c .before .before .before .before .refuse2 .ensures .0) (rw (p .list-pass .kept .1 .1 .1 .1 .1 .1 .0, p .list-pass .kept .1 .1 .1 .1 .1 .1 .1 .0) at (c .before .before .before .before .refuse2 .ensures .1))
+
+lay-part-requires : tie.Need-lay-part-requires
+lay-part-requires c κs =
+    let p = c .before .before .before .before .before .before .before .before .before .before .before .before .before in
+    let pre = c .before .before .before .before .before .before .before .before .before .before .before .before .before .before .before .before .before .before .before .before .before .before .before .before .before .before .before .before .before .before .before .before .before .before .before .pre in
+    let lw = p .list-pass .kept .1 .1 .1 .1 .0 in
+    let ln = p .list-pass .kept .1 .1 .1 .1 .1 .0 in
+    let lo = p .list-pass .kept .1 .1 .1 .1 .1 .1 .0 in
+    let lg = p .list-pass .kept .1 .1 .1 .1 .1 .1 .1 .0 in
+    let up = passed-up _ _ _ _ _ _ _ refl (p .list-pass .ensures) (c .before .before .before .before .if2 .left) in
+    search needs
+
+same-length-9 : tie.Need-same-length-9
+same-length-9 c = search needs
+
+same-length-10 : tie.Need-same-length-10
+same-length-10 c = search needs
+
+same-length-11 : tie.Need-same-length-11
+same-length-11 c = search needs
+
+same-length-12 : tie.Need-same-length-12
+same-length-12 c = search needs
+
+returns-3 : tie.Need-returns-3
+returns-3 c =
+    let hb = c .before .before .before .before .before .before .before .before .before .before .before .before .before .before .before .before .before .before .before .before .before .before .before .before .before .before .before .before .before .set-source .ensures in
+    let hn = c .before .before .before .before .before .before .before .before .before .before .before .before .before .before .before .before .before .before .before .before .before .before .before .before .before .before .before .before .before .before .before .before .before .number .ensures in
+    let p = c .before .before .before .before .before .before .before .before .before .before .before .before .before .before .before .before .before .before in
+    let pre = c .before .before .before .before .before .before .before .before .before .before .before .before .before .before .before .before .before .before .before .before .before .before .before .before .before .before .before .before .before .before .before .before .before .before .before .before .before .before .before .before .pre in
+    let lw = p .list-pass .kept .1 .1 .1 .1 .0 in
+    let ln = p .list-pass .kept .1 .1 .1 .1 .1 .0 in
+    let fit = c .before .before .before .before .before .before .before .before .before .if2 .left in
+    let up = passed-up _ _ _ _ _ _ _ refl (p .list-pass .ensures) fit in
+    let laid = rw (p .list-pass .kept .1 .1 .1 .1 .1 .1 .0, p .list-pass .kept .1 .1 .1 .1 .1 .1 .1 .0) at (c .before .before .before .before .lay-part .ensures .1) in
+    rw (c .before .before .before .before .lay-part .ensures .0)
+    (called-done _ _ _ _ _ _ _ _ _ _ _ (source-front _ _ _ _ refl hb hn) (source-part _ _ _ _ refl hb hn) (c .before .before .before .before .before .before .before .before .before .before .before .before .before .before .before .before .before .before .before .before .before .before .before .before .is-deep .ensures) (c .before .before .before .before .before .before .before .before .before .before .before .before .before .before .before .before .before .before .before .before .before .before .before .if1 .left) refl (p .list-pass .ensures)
+    _ fit up (cells-le _ _ (length (c .before .before .before .before .before .before .before .before .before .before .before .before .before .before .before .before .before .before .before .before .before .before .before .before .before .before .before .before .before .before .before .before .before .before .before .before .before .before .before .before .args .text .now)) (omega arith) (omega arith)) refl laid)
+
+pub convert-spec : {M : Type 1} → statement M
+convert-spec =
+    tie.close
+    (tie.spec
+    add-end
+    number-requires
+    set-source-requires
+    is-deep-requires
+    refuse-requires
+    same-length
+    same-length-2
+    same-length-3
+    same-length-4
+    returns
+    list-pass-requires
+    refuse-requires-2
+    same-length-5
+    same-length-6
+    same-length-7
+    same-length-8
+    returns-2
+    lay-part-requires
+    same-length-9
+    same-length-10
+    same-length-11
+    same-length-12
+    returns-3)

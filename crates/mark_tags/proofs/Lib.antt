@@ -1,0 +1,13 @@
+pub mod SplitMarks
+pub mod Depth
+pub mod Table
+pub mod Classes
+pub mod Pieces
+pub mod TagNumbers
+pub mod Scanning
+pub mod Tabling
+pub mod Stack
+pub mod TagReading
+pub mod Settling
+pub mod Masks
+pub mod Merging

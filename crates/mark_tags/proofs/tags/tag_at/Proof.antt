@@ -1,0 +1,54 @@
+use borrow.Author.Needs.{needs}
+use native.Mathlib.Omega.{arith}
+use mathlib.Core.Path.{_≡_, refl, sym, ap, _∙_}
+use Prim.Native.Nat.{ℕ, suc, _+_, _-_, _≤_, _<_}
+use mathlib.Core.List.{List, [], _∷_, _++_}
+use lib.ListN.{length, getD}
+use Rattle.mark_tags.proofs.TagNumbers.{tag-at}
+use Rattle.mark_tags.proofs.tags.tag_at.Statement.{statement}
+use Rattle.mark_tags.proofs.tags.tag_at.Tie as tie
+use Rattle.mark_tags.proofs.tags.tag_at.Reads as reads
+use Rattle.mark_tags.proofs.tags.tag_at.Lts as lts
+use Rattle.mark_tags.proofs.tags.tag_of.Reads as tag-of-reads
+use Rattle.text.proofs.scan.byte_at.Reads as byte-at-reads
+
+shared-slice-read-tag-of : tie.Need-shared-slice-read-tag-of
+shared-slice-read-tag-of c = search needs
+
+add-byte-at : tie.Need-add-byte-at
+add-byte-at c = search needs
+
+byte-at-requires : tie.Need-byte-at-requires
+byte-at-requires c κs = search needs
+
+add-byte-at-2 : tie.Need-add-byte-at-2
+add-byte-at-2 c = search needs
+
+byte-at-requires-2 : tie.Need-byte-at-requires-2
+byte-at-requires-2 c κs = search needs
+
+add-byte-at-3 : tie.Need-add-byte-at-3
+add-byte-at-3 c = search needs
+
+byte-at-requires-3 : tie.Need-byte-at-requires-3
+byte-at-requires-3 c κs = search needs
+
+tag-of-requires : tie.Need-tag-of-requires
+tag-of-requires c κs = search needs
+
+returns : tie.Need-returns
+returns c = let a = c .before .before .before .before .before .before .args in cc (tag-at (a .s .now) (a .i))
+
+pub tag-at-spec : {M : Type 1} → statement M
+tag-at-spec =
+    tie.close
+    (tie.spec
+    shared-slice-read-tag-of
+    add-byte-at
+    byte-at-requires
+    add-byte-at-2
+    byte-at-requires-2
+    add-byte-at-3
+    byte-at-requires-3
+    tag-of-requires
+    returns)

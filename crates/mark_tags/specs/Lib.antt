@@ -1,0 +1,3 @@
+pub mod Marks
+pub mod Flat
+pub mod Examples

@@ -1,0 +1,59 @@
+// Reading tags: `[`, letter, `]`, or `[`, `/`, letter, `]`.
+ghost use mathlib.Core.Path.{_≡_};
+ghost use Prim.Native.Nat.{_<_};
+ghost use lib.ListN.{length, drop};
+ghost use Rattle.mark_tags.specs.Marks.{kindOf, tagOfBytes, tagAt};
+ghost use Rattle.mark_tags.specs.Flat.{letterNumber, tagNumber};
+
+// The kind that a letter names, as a number; 4 where there is none.
+fn kind_of(a: u8) -> u32
+    ensures { λ r. ⌜ r ≡ letterNumber (kindOf a) ⌝ }
+{
+    if (a == b'b') | (a == b'B') {
+        return 0;
+    }
+    if (a == b'i') | (a == b'I') {
+        return 1;
+    }
+    if (a == b'u') | (a == b'U') {
+        return 2;
+    }
+    if (a == b's') | (a == b'S') {
+        return 3;
+    }
+    4
+}
+
+fn tag_of(a: u8, b: u8, c: u8, d: u8) -> u32
+    ensures { λ r. ⌜ r ≡ tagNumber (tagOfBytes a b c d) ⌝ }
+{
+    if a == b'[' {
+        if c == b']' {
+            let k = kind_of(b);
+            if k < 4 {
+                return 8 + k;
+            }
+            return 0;
+        }
+        if (b == b'/') & (d == b']') {
+            let k = kind_of(c);
+            if k < 4 {
+                return 12 + k;
+            }
+        }
+    }
+    0
+}
+
+// The tag at i, as a number; 0 where there is none.
+pub fn tag_at(s: &[u8], i: usize) -> u32
+    requires { ⌜ i < length (now s) ⌝ }
+    ensures { λ r. ⌜ r ≡ tagNumber (tagAt (drop i (now (s .entry)))) ⌝ }
+{
+    tag_of(
+        s[i],
+        text::scan::byte_at(s, i + 1),
+        text::scan::byte_at(s, i + 2),
+        text::scan::byte_at(s, i + 3),
+    )
+}

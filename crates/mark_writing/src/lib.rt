@@ -1,0 +1,3 @@
+// Tags to marks: writing slots and marks.
+pub mod mark;
+pub mod slot;

@@ -1,0 +1,5 @@
+pub mod QuotesSplit
+pub mod QuotesFit
+pub mod Reading
+pub mod Blocks
+pub mod Passing

@@ -1,0 +1,539 @@
+-- The laws of the pass in work memory. Assumes nothing.
+use mathlib.Core.Path.{_≡_, refl, sym, ap, subst, _∙_}
+use mathlib.Core.Logic.{_⊎_}
+use Prim.Native.Nat.{ℕ, zero, suc, _+_, _-_, _≤_, _<_, max}
+use native.Mathlib.Omega.{arith}
+use native.Mathlib.Decide.{decLe}
+use native.Mathlib.Numerals.{add-one}
+use mathlib.Core.List.{List, [], _∷_, _++_, append-assoc, append-nil}
+use mathlib.Core.Bool.{Bool, true, false, _||_, true≢false}
+use lib.Dec.{leb}
+use borrow.Author.Tests.{leb-false}
+use lib.ListN.{length, take, drop, getD, set, length-append, length-set, length-map}
+use lib.Seq.{length-take-le, getD-take, take-take, take-at, drop-at, getD-set-same, getD-set-other}
+use Rattle.text.specs.Cells.{Cell, cell, cells, bytes, part, feed}
+use Rattle.text.specs.Writes.{Holds, Appends, AppendsIn}
+use Rattle.text.proofs.Writing.{holds-fits, cells-le, cells-short, cells-at, part-cons, part-end}
+use Rattle.text.proofs.Areas.{area-length}
+use Rattle.text.proofs.Clearing.{cells-bytes}
+use Rattle.quote_blocks.proofs.Reading.{read-opener, read-closer, read-text, read-end}
+use Rattle.quote_lines.specs.Tags.{attributionOf, openerSize, closerSize}
+use Rattle.quote_blocks.specs.Quotes.{Token, text, opens, closes, tokens, Quote, State, start, held, total, close, closed, step, finish, run, quotes, finishNeed, runNeed, quotesNeed, quoteBlock, tooDeepFrom, tooDeep}
+use Rattle.quote_blocks.specs.Passes.{opening, Stood, Stands, Closes, ClosesIn, Takes, TakesOne, Leaves, ClosesLast, ClosesAll, Reached, Runs}
+
+-- ---- an area
+
+module _ (v : List Cell) (to : ℕ) (p c : List Cell) (h : Holds v to (p ++ c)) (le : to ≤ length v) where
+  fits : length (p ++ c) ≤ length v
+  fits = holds-fits v to (p ++ c) h le
+
+  -- back to the start of what was appended last
+  pub holds-cut : (begin : ℕ) → length p ≡ begin → Holds v begin p
+  holds-cut begin e =
+      let l = length-append p c in
+      let f = fits in
+      let n : to ≡ length (p ++ c) = h .end f in
+      record {
+        end = λ _. sym e;
+        text = λ _. sym (take-take begin to v (omega arith)) ∙ ap (take begin) (h .text f) ∙ take-at p c begin e;
+        full = λ lt. omega arith;
+      }
+
+  -- what was appended last
+  pub holds-part : (begin : ℕ) → length p ≡ begin → part begin to v ≡ c
+  unfolding part
+  holds-part begin e = ap (drop begin) (h .text fits) ∙ drop-at p c begin e
+
+  -- what stands before it
+  pub holds-before : take (length p) v ≡ p
+  holds-before =
+      let l = length-append p c in
+      let f = fits in
+      let n : to ≡ length (p ++ c) = h .end f in
+      sym (take-take (length p) to v (omega arith)) ∙ ap (take (length p)) (h .text f) ∙ take-at p c (length p) refl
+
+holds-all : {v v' t : List Cell} {n : ℕ} → Appends v 0 v' n t → Holds v' n t
+holds-all {v} a = a .step [] (record { end = λ h. refl; text = λ h. refl; full = λ h. omega arith })
+
+-- ---- closing: the block has been built in other slices w, from the cells of v from begin up to to
+
+module _ (v : List Cell) (begin to : ℕ) (w₀ w : List Cell) (n : ℕ) (le : to ≤ length v) (block : List Cell → List Cell) (a : Appends w₀ 0 w n (block (part begin to v))) where
+  pub closes-done : (v' : List Cell) (r : ℕ) → n ≤ length w → Appends v begin v' r (part 0 n w) → Closes v begin to v' r block
+  unfolding part
+  closes-done v' r fit b = record {
+    step = λ p c h e.
+        let t = holds-all a .text (holds-fits w n _ (holds-all a) fit) in
+        rw (sym (t ∙ ap block (holds-part v to p c h le begin e))) (b .step p (holds-cut v to p c h le begin e));
+    keeps = b .keeps;
+  }
+
+  -- the block does not fit
+  pub closes-full : (r : ℕ) → length v ≤ begin + length w → length w < n → length v < r → Closes v begin to v r block
+  closes-full r room lt far = record {
+    step = λ p c h e.
+        let q : block (part begin to v) ≡ block c = ap block (holds-part v to p c h le begin e) in
+        let k = holds-all a in
+        let l = length-append p (block c) in
+        let m : length (block (part begin to v)) ≡ length (block c) = ap length q in
+        let no-room : length (p ++ block c) ≤ length v → ⊥ = λ f. (let g = k .end (omega arith) in omega arith) in
+        record { end = λ f. absurd (no-room f); text = λ f. absurd (no-room f); full = λ f. far };
+    keeps = refl;
+  }
+
+-- the same of slices
+module _ (bs ns os ps os' ps' : List ℕ) (begin to end n : ℕ) (block : List Cell → List Cell) (a : Appends (cells os ps) 0 (cells os' ps') n (block (part begin to (cells bs ns))))
+    (ht : to ≤ end) (hb : end ≤ length bs) (hn : end ≤ length ns) (ho : length os' ≤ length ps') where
+  out-length : length (cells os' ps') ≡ length os'
+  out-length = let x = cells-short os' ps' in let y = cells-le os' ps' (length os') (omega arith) ho in omega arith
+
+  from-area : Appends (cells os ps) 0 (cells os' ps') n (block (part begin to (take end (cells bs ns))))
+  unfolding part
+  from-area = rw (take-take to end (cells bs ns) ht) a
+
+  pub block-closes : {bs' ns' : List ℕ} {r : ℕ} → n ≤ length os' → AppendsIn bs ns end begin bs' ns' r (part 0 n (cells os' ps')) → ClosesIn bs ns end begin to bs' ns' r block
+  block-closes fit b =
+      let l = out-length in let k = area-length bs ns end hb hn in
+      record { closes = closes-done (take end (cells bs ns)) begin to (cells os ps) (cells os' ps') n (omega arith) block from-area _ _ (omega arith) (b .appends) }
+
+  pub block-closes-full : (r : ℕ) → length os' < n → end ≤ begin + length os' → end < r → ClosesIn bs ns end begin to bs ns r block
+  block-closes-full r lt room far =
+      let l = out-length in let k = area-length bs ns end hb hn in
+      record { closes = closes-full (take end (cells bs ns)) begin to (cells os ps) (cells os' ps') n (omega arith) block from-area r (omega arith) (omega arith) (omega arith) }
+
+-- ---- where the open quotes stand
+
+-- a place that no open quote uses may change
+stood-set : (s : List ℕ) (base : ℕ) (starts tags : List ℕ) (k a b : ℕ) (qs : List Quote) → length qs ≤ k → Stood s base starts tags qs → Stood s base (set starts k a) (set tags k b) qs
+unfolding Stood
+stood-set s base starts tags k a b [] h w = tt
+stood-set s base starts tags k a b (q ∷ qs) h w =
+    let x : getD (set starts k a) (length qs) 0 ≡ getD starts (length qs) 0 = getD-set-other starts k (length qs) a 0 (omega arith) in
+    let y : getD (set tags k b) (length qs) 0 ≡ getD tags (length qs) 0 = getD-set-other tags k (length qs) b 0 (omega arith) in
+    (x ∙ w .0, rw y (w .1), stood-set s base starts tags k a b qs (omega arith) (w .2))
+
+opening-length : (qs : List Quote) → length (opening qs) ≡ held qs
+unfolding opening held
+opening-length [] = refl
+opening-length (q ∷ qs) = simp length-append (omega (arith, opening-length qs))
+
+-- ---- one token
+
+module _ (caption : List ℕ → List ℕ) (e end : ℕ) (P : List Cell) (bs ns : List ℕ) (to : ℕ) (starts tags : List ℕ) (d : ℕ) (s : State)
+    (w : Stands e P (take end (cells bs ns)) to starts tags d s) (he : e ≤ length P) (hp : length P ≤ end) (hb : end ≤ length bs) (hn : end ≤ length ns) (ht : to ≤ end) where
+  within : to ≤ length (take end (cells bs ns))
+  within = let a = area-length bs ns end hb hn in omega arith
+
+  -- the text is in the slices
+  text-cells : take e P ≡ take e (cells bs ns)
+  text-cells =
+      ap (take e) (sym (holds-before (take end (cells bs ns)) to P _ (w .text) within))
+      ∙ take-take e (length P) (take end (cells bs ns)) he
+      ∙ take-take e end (cells bs ns) (omega arith)
+
+  pub text-bytes : bytes (take e P) ≡ take e bs
+  text-bytes = ap bytes text-cells ∙ cells-bytes e bs ns (omega arith) (omega arith)
+
+  text-length : length (bytes (take e P)) ≡ e
+  text-length = length-map (take e P) (λ (c : Cell). c .byte) ∙ length-take-le e P he
+
+  at-end : to ≡ length P + length (opening (s .opened) ++ s .now)
+  at-end = w .text .end (holds-fits _ to _ (w .text) within) ∙ length-append P (opening (s .opened) ++ s .now)
+
+  module _ (i : ℕ) {k : ℕ} (ek : k ≡ openerSize (drop i (take e bs))) where
+    pub takes-opener : (k ≡ 0 → ⊥) → i < e → d < length starts → d < length tags
+        → Takes caption e P (take end (cells bs ns)) to starts tags d i (take end (cells bs ns)) to (set starts d to) (set tags d i) (d + 1) (i + k) s
+    unfolding step Stood opening
+    takes-opener n lt hs hg =
+        let l = text-length in
+        let z = at-end in
+        let x : getD (set starts d to) (length (s .opened)) 0 ≡ to = rw (← w .deep) (getD-set-same starts d to 0 hs) in
+        let y : getD (set tags d i) (length (s .opened)) 0 ≡ i = rw (← w .deep) (getD-set-same tags d i 0 hg) in
+        record {
+          token = opens (take k (drop i (take e P))) (attributionOf (drop i (take e bs)));
+          reads = read-opener (take e P) (take e bs) text-bytes i ek n;
+          stands = record {
+            text = rw append-nil (w .text);
+            deep = ap (λ (m : ℕ). m + 1) (w .deep) ∙ add-one (length (s .opened));
+            stood = (x ∙ z, (rw y (omega arith), rw (y, text-bytes)), stood-set _ _ starts tags d to i (s .opened) (let q = w .deep in omega arith) (w .stood));
+          };
+        }
+
+    module _ {j : ℕ} (zk : k ≡ 0) (ej : j ≡ closerSize (drop i (take e bs))) where
+      pub takes-text : j ≡ 0 → i < e → (v' : List Cell) (to' : ℕ) → Appends (take end (cells bs ns)) to v' to' (part i (i + 1) (cells bs ns))
+          → Takes caption e P (take end (cells bs ns)) to starts tags d i v' to' starts tags d (i + 1) s
+      unfolding step
+      takes-text zj lt v' to' a =
+          let r : length (take e bs) ≡ e = length-take-le e bs (omega arith) in
+          let c : part i (i + 1) (cells bs ns) ≡ getD (take e P) i feed ∷ [] =
+          part-cons bs ns i (i + 1) (omega arith) (omega arith) (omega arith) ∙ rw (part-end (i + 1) (i + 1) (cells bs ns) (omega arith), text-cells, getD-take e (cells bs ns) i feed lt, cells-at bs ns i feed (omega arith) (omega arith)) in
+          record {
+            token = text (getD (take e P) i feed);
+            reads = read-text (take e P) (take e bs) text-bytes i (omega arith) ek zk ej zj;
+            stands = record {
+              text = rw (← append-assoc (opening (s .opened)) (s .now) (getD (take e P) i feed ∷ []), ← append-assoc P (opening (s .opened) ++ s .now) (getD (take e P) i feed ∷ []), sym c) (a .step _ (w .text));
+              deep = w .deep;
+              stood = w .stood;
+            };
+          }
+
+      -- no quote is open
+      pub takes-stray : (j ≡ 0 → ⊥) → d ≡ 0 → Takes caption e P (take end (cells bs ns)) to starts tags d i (take end (cells bs ns)) to starts tags d (i + j) s
+      unfolding step closed
+      takes-stray n zd = record {
+        token = closes (take j (drop i (take e P)));
+        reads = read-closer (take e P) (take e bs) text-bytes i ek zk ej n;
+        stands = by (s .opened) (sym (w .deep) ∙ zd) w;
+      }
+        where
+          by : (qs : List Quote) → length qs ≡ 0 → Stands e P (take end (cells bs ns)) to starts tags d (record { now = s .now; opened = qs })
+              → Stands e P (take end (cells bs ns)) to starts tags d (closed caption (s .now) qs)
+          by [] q h = h
+          by (x ∷ qs) q h = absurd (omega arith)
+
+  -- the innermost quote is closed; begin and tag are where its content and its opener stand
+  module _ (begin tag : ℕ) (eb : length P ≤ getD starts (d - 1) 0 → getD starts (d - 1) 0 ≤ to → begin ≡ getD starts (d - 1) 0) (et : getD tags (d - 1) 0 ≤ e → tag ≡ getD tags (d - 1) 0)
+      (v' : List Cell) (to' : ℕ) (cl : Closes (take end (cells bs ns)) begin to v' to' (quoteBlock (caption (attributionOf (drop tag (take e bs)))))) where
+    pub stands-closed : (now : List Cell) (q : Quote) (qs : List Quote) → s ≡ record { now = now; opened = q ∷ qs }
+        → Stands e P v' to' starts tags (d - 1) (record { now = close caption q now; opened = qs })
+    unfolding Stood opening close
+    stands-closed now q qs es =
+        let h : Stands e P (take end (cells bs ns)) to starts tags d (record { now = now; opened = q ∷ qs }) = rw (sym es) w in
+        let dl : d ≡ suc (length qs) = h .deep in
+        let di : d - 1 ≡ length qs = omega arith in
+        let l = length-append P ((opening qs ++ q .outer) ++ now) in
+        let l' = length-append (opening qs ++ q .outer) now in
+        let z : to ≡ length (P ++ ((opening qs ++ q .outer) ++ now)) = h .text .end (holds-fits _ to _ (h .text) within) in
+        let x : getD starts (d - 1) 0 ≡ length P + length (opening qs ++ q .outer) = rw di (h .stood .0) in
+        let tl = text-length in
+        let b : begin ≡ length P + length (opening qs ++ q .outer) = eb (omega arith) (omega arith) ∙ x in
+        let y : tag ≡ getD tags (length qs) 0 = et (rw di (omega (arith, h .stood .1 .0, tl))) ∙ ap (λ (m : ℕ). getD tags m 0) di in
+        let a : q .attribution ≡ attributionOf (drop tag (take e bs)) = h .stood .1 .1 ∙ rw (y, text-bytes) in
+        let lp = length-append P (opening qs ++ q .outer) in
+        record {
+          text =
+              rw (a, ← append-assoc (opening qs) (q .outer) (quoteBlock (caption (attributionOf (drop tag (take e bs)))) now), ← append-assoc P (opening qs ++ q .outer) (quoteBlock (caption (attributionOf (drop tag (take e bs)))) now))
+              (cl .step (P ++ (opening qs ++ q .outer)) now (rw append-assoc (h .text)) (omega arith));
+          deep = di;
+          stood = h .stood .2;
+        }
+
+  pub takes-close : (i : ℕ) {k j : ℕ} → k ≡ openerSize (drop i (take e bs)) → k ≡ 0 → j ≡ closerSize (drop i (take e bs)) → (j ≡ 0 → ⊥) → (d ≡ 0 → ⊥)
+      → (v' : List Cell) (to' : ℕ) → ((now : List Cell) (q : Quote) (qs : List Quote) → Stands e P (take end (cells bs ns)) to starts tags d (record { now = now; opened = q ∷ qs })
+      → Stands e P v' to' starts tags (d - 1) (record { now = close caption q now; opened = qs }))
+      → Takes caption e P (take end (cells bs ns)) to starts tags d i v' to' starts tags (d - 1) (i + j) s
+  unfolding step closed
+  takes-close i {k} {j} ek zk ej n pos v' to' cl = record {
+    token = closes (take j (drop i (take e P)));
+    reads = read-closer (take e P) (take e bs) text-bytes i ek zk ej n;
+    stands = by (s .opened) w;
+  }
+    where
+      by : (qs : List Quote) → Stands e P (take end (cells bs ns)) to starts tags d (record { now = s .now; opened = qs }) → Stands e P v' to' starts tags (d - 1) (closed caption (s .now) qs)
+      by [] h = absurd (pos (h .deep))
+      by (x ∷ qs) h = cl (s .now) x qs h
+
+module _ (caption : List ℕ → List ℕ) (e base end : ℕ) (bs ns : List ℕ) (to : ℕ) (starts tags : List ℕ) (d : ℕ) (he : e ≤ base) (hp : base ≤ end) (hb : end ≤ length bs) (hn : end ≤ length ns) (ht : to ≤ end) where
+  pub closes-last : (begin tag : ℕ) → (base ≤ getD starts (d - 1) 0 → getD starts (d - 1) 0 ≤ to → begin ≡ getD starts (d - 1) 0) → (getD tags (d - 1) 0 ≤ e → tag ≡ getD tags (d - 1) 0)
+      → {bs' ns' : List ℕ} {to' : ℕ} → ClosesIn bs ns end begin to bs' ns' to' (quoteBlock (caption (attributionOf (drop tag (take e bs)))))
+      → ClosesLast caption e base end bs ns to starts tags d bs' ns' to'
+  closes-last begin tag eb et cl = record {
+    each = λ P now q qs eP w.
+        stands-closed caption e end P bs ns to starts tags d (record { now = now; opened = q ∷ qs }) w (omega arith) (omega arith) hb hn ht begin tag (λ le. eb (omega arith)) et _ _ (cl .closes) now q qs refl;
+  }
+
+  -- what stands before `begin` stands there still
+  text-kept : (k : ℕ) (bs' ns' : List ℕ) → e ≤ k → k ≤ end → end ≤ length bs' → end ≤ length ns' → take k (take end (cells bs' ns')) ≡ take k (take end (cells bs ns)) → take e bs' ≡ take e bs
+  text-kept k bs' ns' h j hb' hn' q =
+      sym (cells-bytes e bs' ns' (omega arith) (omega arith))
+      ∙ ap bytes (sym (take-take e end (cells bs' ns') (omega arith)) ∙ sym (take-take e k (take end (cells bs' ns')) h) ∙ ap (take e) q ∙ take-take e k (take end (cells bs ns)) h ∙ take-take e end (cells bs ns) (omega arith))
+      ∙ cells-bytes e bs ns (omega arith) (omega arith)
+
+  pub closing-keeps : {bs' ns' : List ℕ} {begin to' : ℕ} {block : List Cell → List Cell} → ClosesIn bs ns end begin to bs' ns' to' block → base ≤ begin → begin ≤ end → length bs' ≡ length bs → length ns' ≡ length ns → take e bs' ≡ take e bs
+  closing-keeps {bs'} {ns'} {begin} c h j lb ln = text-kept begin bs' ns' (omega arith) j (omega arith) (omega arith) (c .closes .keeps)
+
+  pub appending-keeps : {bs' ns' : List ℕ} {to' : ℕ} {t : List Cell} → AppendsIn bs ns end to bs' ns' to' t → base ≤ to → length bs' ≡ length bs → length ns' ≡ length ns → take e bs' ≡ take e bs
+  appending-keeps {bs'} {ns'} a h lb ln = text-kept to bs' ns' (omega arith) ht (omega arith) (omega arith) (a .appends .keeps)
+
+  module _ (i : ℕ) {k : ℕ} (lt : i < e) (ek : k ≡ openerSize (drop i (take e bs))) where
+    pub opener-taken : (k ≡ 0 → ⊥) → d < length starts → d < length tags
+        → TakesOne caption e base end bs ns to starts tags d i bs ns to (set starts d to) (set tags d i) (d + 1) (i + k)
+    opener-taken n hs hg = record { each = λ P s eP w. takes-opener caption e end P bs ns to starts tags d s w (omega arith) (omega arith) hb hn ht i ek n lt hs hg }
+
+    module _ {j : ℕ} (zk : k ≡ 0) (ej : j ≡ closerSize (drop i (take e bs))) where
+      pub stray-taken : (j ≡ 0 → ⊥) → d ≡ 0 → TakesOne caption e base end bs ns to starts tags d i bs ns to starts tags d (i + j)
+      stray-taken n zd = record { each = λ P s eP w. takes-stray caption e end P bs ns to starts tags d s w (omega arith) (omega arith) hb hn ht i ek zk ej n zd }
+
+      pub closer-taken : (j ≡ 0 → ⊥) → (d ≡ 0 → ⊥) → {bs' ns' : List ℕ} {to' : ℕ} → ClosesLast caption e base end bs ns to starts tags d bs' ns' to'
+          → TakesOne caption e base end bs ns to starts tags d i bs' ns' to' starts tags (d - 1) (i + j)
+      closer-taken n pos cl = record { each = λ P s eP w. takes-close caption e end P bs ns to starts tags d s w (omega arith) (omega arith) hb hn ht i ek zk ej n pos _ _ (λ now q qs h. cl .each P now q qs eP h) }
+
+      pub text-taken : j ≡ 0 → {bs' ns' : List ℕ} {to' : ℕ} → AppendsIn bs ns end to bs' ns' to' (part i (i + 1) (cells bs ns))
+          → TakesOne caption e base end bs ns to starts tags d i bs' ns' to' starts tags d (i + 1)
+      text-taken zj a = record { each = λ P s eP w. takes-text caption e end P bs ns to starts tags d s w (omega arith) (omega arith) hb hn ht i ek zk ej zj lt _ _ (a .appends) }
+
+-- ---- all tokens
+
+or-false : (a b : Bool) → (a || b) ≡ false → (a ≡ false) × (b ≡ false)
+or-false true b h = absurd (true≢false h)
+or-false false b h = (refl, h)
+
+module _ (caption : List ℕ → List ℕ) where
+  finish-needs : (now : List Cell) (qs : List Quote) → held qs + length now ≤ finishNeed caption now qs
+  unfolding finishNeed held
+  finish-needs now [] = omega arith
+  finish-needs now (q ∷ qs) = omega arith
+
+  total-needed : (r : List Token) (s : State) → total s ≤ runNeed caption r s
+  unfolding runNeed total
+  total-needed [] s = finish-needs (s .now) (s .opened)
+  total-needed (t ∷ r) s = omega arith
+
+  deep-step : (t : Token) (r : List Token) (s : State) → tooDeepFrom (length (s .opened)) (t ∷ r) ≡ false → tooDeepFrom (length (step caption t s .opened)) r ≡ false
+  unfolding tooDeepFrom step closed
+  deep-step (text c) r s h = h
+  deep-step (opens tag a) r s h = or-false (leb 64 (length (s .opened))) _ h .1
+  deep-step (closes tag) r s h = by (s .opened) h
+    where
+      by : (qs : List Quote) → tooDeepFrom (length qs - 1) r ≡ false → tooDeepFrom (length (closed caption (s .now) qs .opened)) r ≡ false
+      by [] h = h
+      by (q ∷ qs) h = let z : suc (length qs) - 1 ≡ length qs = omega arith in rw (sym z) h
+
+  module _ (e end : ℕ) (P : List Cell) where
+    -- what is left of the text, taken from the state that the area holds, gives all of it
+    pub record Running (v : List Cell) (to : ℕ) (starts tags : List ℕ) (depth i : ℕ) : Type 0 where
+      pub state : State
+      pub stands : Stands e P v to starts tags depth state
+      pub same : quotes caption (take e P) ≡ run caption (tokens 0 (drop i (take e P))) state
+      pub need : max (end - length P) (quotesNeed caption (take e P)) ≡ max (end - length P) (runNeed caption (tokens 0 (drop i (take e P))) state)
+      pub deep : tooDeepFrom depth (tokens 0 (drop i (take e P))) ≡ false
+
+    -- how much the area holds
+    holds-total : (v : List Cell) (to : ℕ) (starts tags : List ℕ) (d : ℕ) (s : State) → Stands e P v to starts tags d s → length (P ++ (opening (s .opened) ++ s .now)) ≡ length P + total s
+    unfolding total
+    holds-total v to starts tags d s w =
+        let a = length-append P (opening (s .opened) ++ s .now) in
+        let b = length-append (opening (s .opened)) (s .now) in
+        let c = opening-length (s .opened) in
+        omega arith
+
+    pub running-start : (v : List Cell) (starts tags : List ℕ) → take (length P) v ≡ P → length P ≤ length v → tooDeep (take e P) ≡ false → Running v (length P) starts tags 0 0
+    unfolding quotes quotesNeed tooDeep Stood opening
+    running-start v starts tags h le z = record {
+      state = start;
+      stands = record {
+        text = rw append-nil (record { end = λ _. refl; text = λ _. h; full = λ lt. absurd (omega arith) });
+        deep = refl;
+        stood = tt;
+      };
+      same = refl;
+      need = refl;
+      deep = z;
+    }
+
+    module _ {v : List Cell} {to : ℕ} {starts tags : List ℕ} {d i : ℕ} (w : Running v to starts tags d i) (size : length v ≡ end) (fit : to ≤ end) where
+      small : total (w .state) ≤ end - length P
+      small = let a = holds-total v to starts tags d (w .state) (w .stands) in let b = w .stands .text .end (holds-fits v to _ (w .stands .text) (omega arith)) in omega arith
+
+      pub running-room : {k : ℕ} (s : List ℕ) → bytes (take e P) ≡ s → k ≡ openerSize (drop i s) → (k ≡ 0 → ⊥) → d < 64
+      unfolding tooDeepFrom
+      running-room s eb ek n =
+          let z : (leb 64 d || _) ≡ false = rw (read-opener (take e P) s eb i ek n) at (w .deep) in
+          leb-false 64 d (or-false (leb 64 d) _ z .0)
+
+      pub running-end : length (take e P) ≤ i → Reached caption e (length P) end P v to starts tags d
+      unfolding run runNeed
+      running-end le =
+          let z : tokens 0 (drop i (take e P)) ≡ [] = read-end (take e P) (bytes (take e P)) refl i (rw (length-map (take e P) (λ (c : Cell). c .byte)) le) in
+          record {
+            now = w .state .now;
+            opened = w .state .opened;
+            stands = w .stands;
+            same = rw z at (w .same);
+            need = rw z at (w .need);
+          }
+
+      module _ {v' : List Cell} {to' : ℕ} {starts' tags' : List ℕ} {d' i' : ℕ} (t : Takes caption e P v to starts tags d i v' to' starts' tags' d' i' (w .state)) (size' : length v' ≡ end) where
+        on-need : max (end - length P) (quotesNeed caption (take e P)) ≡ max (end - length P) (runNeed caption (tokens 0 (drop i' (take e P))) (step caption (t .token) (w .state)))
+        unfolding runNeed
+        on-need = let n = rw (t .reads) at (w .need) in let z = small in omega (arith, n, z)
+
+        pub running-on : to' ≤ end → Running v' to' starts' tags' d' i'
+        unfolding run
+        running-on le = record {
+          state = step caption (t .token) (w .state);
+          stands = t .stands;
+          same = rw (t .reads) at (w .same);
+          need = on-need;
+          deep = rw (t .stands .deep) (deep-step (t .token) _ (w .state) (rw (t .reads, w .stands .deep) at (w .deep)));
+        }
+
+        pub running-full : end < to' → end < length P + quotesNeed caption (take e P)
+        running-full lt =
+            let s' : State = step caption (t .token) (w .state) in
+            let a = holds-total v' to' starts' tags' d' s' (t .stands) in
+            let over : length P + total s' ≤ end → ⊥ = λ le. (let q = t .stands .text .end (omega arith) in omega arith) in
+            let b = total-needed (tokens 0 (drop i' (take e P))) s' in
+            let n = on-need in
+            elim (decLe (length P + total s') end) [ yes p ↦ absurd (over p) | no p ↦ omega (arith, n, b, p) ]
+
+    -- ---- closing what is open at the end
+
+    -- closing what the area holds gives what closing all of it does
+    pub record Closing (now₀ : List Cell) (qs₀ : List Quote) (v : List Cell) (to : ℕ) (starts tags : List ℕ) (depth : ℕ) : Type 0 where
+      pub now : List Cell
+      pub opened : List Quote
+      pub stands : Stands e P v to starts tags depth (record { now = now; opened = opened })
+      pub same : finish caption now₀ qs₀ ≡ finish caption now opened
+      pub need : max (end - length P) (finishNeed caption now₀ qs₀) ≡ max (end - length P) (finishNeed caption now opened)
+
+    pub closing-start : {v : List Cell} {to : ℕ} {starts tags : List ℕ} {d : ℕ} (now : List Cell) (qs : List Quote) → Stands e P v to starts tags d (record { now = now; opened = qs }) → Closing now qs v to starts tags d
+    closing-start now qs w = record { now = now; opened = qs; stands = w; same = refl; need = refl }
+
+    module _ {now₀ : List Cell} {qs₀ : List Quote} {v : List Cell} {to : ℕ} {starts tags : List ℕ} {d : ℕ} (w : Closing now₀ qs₀ v to starts tags d) (size : length v ≡ end) (fit : to ≤ end) where
+      held-small : (length P + (held (w .opened) + length (w .now)) ≤ end) × (to ≡ length P + (held (w .opened) + length (w .now)))
+      unfolding total
+      held-small = let a = holds-total v to starts tags d _ (w .stands) in let f = holds-fits v to _ (w .stands .text) (omega arith) in let b = w .stands .text .end f in (omega arith, omega arith)
+
+      pub closing-end : d ≡ 0 → Leaves (length P) end v to (finish caption now₀ qs₀) (finishNeed caption now₀ qs₀)
+      unfolding finish finishNeed held opening
+      closing-end z = by (w .opened) (sym (w .stands .deep) ∙ z) (w .stands) (w .same) (w .need) held-small
+        where
+          by : (qs : List Quote) → length qs ≡ 0 → Stands e P v to starts tags d (record { now = w .now; opened = qs }) → finish caption now₀ qs₀ ≡ finish caption (w .now) qs
+              → max (end - length P) (finishNeed caption now₀ qs₀) ≡ max (end - length P) (finishNeed caption (w .now) qs)
+              → (length P + (held qs + length (w .now)) ≤ end) × (to ≡ length P + (held qs + length (w .now)))
+              → Leaves (length P) end v to (finish caption now₀ qs₀) (finishNeed caption now₀ qs₀)
+          by (q ∷ qs) l h r n f = absurd (omega arith)
+          by [] l h r n f = record {
+            fits = λ le. (let q = ap length r in omega (arith, f .1, q), holds-part v to P (w .now) (h .text) (omega arith) (length P) refl ∙ sym r);
+            full = λ lt. absurd (omega (arith, n, f .0, lt));
+          }
+
+      module _ {v' : List Cell} {to' : ℕ} (pos : d ≡ 0 → ⊥)
+          (cl : (now : List Cell) (q : Quote) (qs : List Quote) → Stands e P v to starts tags d (record { now = now; opened = q ∷ qs })
+          → Stands e P v' to' starts tags (d - 1) (record { now = close caption q now; opened = qs })) (size' : length v' ≡ end) where
+        closed-one : (qs : List Quote) → Stands e P v to starts tags d (record { now = w .now; opened = qs }) → finish caption now₀ qs₀ ≡ finish caption (w .now) qs
+            → max (end - length P) (finishNeed caption now₀ qs₀) ≡ max (end - length P) (finishNeed caption (w .now) qs)
+            → length P + (held qs + length (w .now)) ≤ end
+            → Closing now₀ qs₀ v' to' starts tags (d - 1)
+        unfolding finish finishNeed
+        closed-one [] h r n f = absurd (pos (h .deep))
+        closed-one (q ∷ qs) h r n f = record {
+          now = close caption q (w .now);
+          opened = qs;
+          stands = cl (w .now) q qs h;
+          same = r;
+          need = omega (arith, n, f);
+        }
+
+        pub closing-on : Closing now₀ qs₀ v' to' starts tags (d - 1)
+        closing-on = closed-one (w .opened) (w .stands) (w .same) (w .need) (held-small .0)
+
+        pub closing-full : end < to' → Leaves (length P) end v' to' (finish caption now₀ qs₀) (finishNeed caption now₀ qs₀)
+        unfolding total
+        closing-full lt =
+            let k = closing-on in
+            let a = holds-total v' to' starts tags (d - 1) _ (k .stands) in
+            let b = finish-needs (k .now) (k .opened) in
+            let over : length P + (held (k .opened) + length (k .now)) ≤ end → ⊥ = λ le. (let q = k .stands .text .end (omega arith) in omega arith) in
+            record {
+              fits = λ le. absurd (over (omega (arith, k .need, b, le)));
+              full = λ _. lt;
+            }
+
+-- ---- the loops
+
+module _ (caption : List ℕ → List ℕ) (e base end : ℕ) (v₀ : List Cell) (to₀ : ℕ) (starts tags : List ℕ) (d₀ : ℕ) where
+  -- of all that may be open at the start
+  pub record ClosingAll (bs ns : List ℕ) (to d : ℕ) : Type 0 where
+    pub each : (P now : List Cell) (qs : List Quote) → length P ≡ base → Stands e P v₀ to₀ starts tags d₀ (record { now = now; opened = qs }) → Closing caption e end P now qs (take end (cells bs ns)) to starts tags d
+
+  module _ {bs ns : List ℕ} {to d : ℕ} (w : ClosingAll bs ns to d) (hb : end ≤ length bs) (hn : end ≤ length ns) (fit : to ≤ end) where
+    pub all-end : d ≡ 0 → ClosesAll caption e base end v₀ to₀ starts tags d₀ (take end (cells bs ns)) to
+    all-end z P now qs eP st =
+        subst (λ (k : ℕ). Leaves k end (take end (cells bs ns)) to (finish caption now qs) (finishNeed caption now qs)) eP
+        (closing-end caption e end P (w .each P now qs eP st) (area-length bs ns end hb hn) fit z)
+
+    module _ {bs' ns' : List ℕ} {to' : ℕ} (pos : 0 < d) (cl : ClosesLast caption e base end bs ns to starts tags d bs' ns' to') (lb : length bs' ≡ length bs) (ln : length ns' ≡ length ns) where
+      pub all-on : ClosingAll bs' ns' to' (d - 1)
+      all-on = record {
+        each = λ P now qs eP st.
+            closing-on caption e end P (w .each P now qs eP st) (area-length bs ns end hb hn) fit (λ z. omega arith) (λ now' q qs' h. cl .each P now' q qs' eP h) (area-length bs' ns' end (omega arith) (omega arith));
+      }
+
+      pub all-full : end < to' → ClosesAll caption e base end v₀ to₀ starts tags d₀ (take end (cells bs' ns')) to'
+      all-full lt P now qs eP st =
+          subst (λ (k : ℕ). Leaves k end (take end (cells bs' ns')) to' (finish caption now qs) (finishNeed caption now qs)) eP
+          (closing-full caption e end P (w .each P now qs eP st) (area-length bs ns end hb hn) fit (λ z. omega arith) (λ now' q qs' h. cl .each P now' q qs' eP h) (area-length bs' ns' end (omega arith) (omega arith)) lt)
+
+module _ (caption : List ℕ → List ℕ) (e base end : ℕ) (bs₀ ns₀ : List ℕ) (he : e ≤ base) (hp : base ≤ end) (hb₀ : end ≤ length bs₀) (hn₀ : end ≤ length ns₀) where
+  before-length : length (take base (cells bs₀ ns₀)) ≡ base
+  before-length = length-take-le base (cells bs₀ ns₀) (cells-le bs₀ ns₀ base (omega arith) (omega arith))
+
+  -- the run, in slices
+  pub record RunningIn (bs ns : List ℕ) (to : ℕ) (starts tags : List ℕ) (d i : ℕ) : Type 0 where
+    pub runs : Running caption e end (take base (cells bs₀ ns₀)) (take end (cells bs ns)) to starts tags d i
+
+  pub run-start : (starts tags : List ℕ) → tooDeep (take e (cells bs₀ ns₀)) ≡ false → RunningIn bs₀ ns₀ base starts tags 0 0
+  run-start starts tags z =
+      let l = before-length in
+      let a = area-length bs₀ ns₀ end hb₀ hn₀ in
+      record {
+        runs = subst (λ (k : ℕ). Running caption e end (take base (cells bs₀ ns₀)) (take end (cells bs₀ ns₀)) k starts tags 0 0) l
+            (running-start caption e end (take base (cells bs₀ ns₀)) (take end (cells bs₀ ns₀)) starts tags (rw l (take-take base end (cells bs₀ ns₀) hp)) (omega arith) (rw (take-take e base (cells bs₀ ns₀) he) z));
+      }
+
+  module _ {bs ns : List ℕ} {to : ℕ} {starts tags : List ℕ} {d i : ℕ} (w : RunningIn bs ns to starts tags d i) (hb : end ≤ length bs) (hn : end ≤ length ns) (fit : to ≤ end) where
+    pub run-room : (openerSize (drop i (take e bs)) ≡ 0 → ⊥) → d < 64
+    run-room n =
+        let l = before-length in
+        running-room caption e end (take base (cells bs₀ ns₀)) (w .runs) (area-length bs ns end hb hn) fit (take e bs)
+        (text-bytes caption e end (take base (cells bs₀ ns₀)) bs ns to starts tags d (w .runs .state) (w .runs .stands) (omega arith) (omega arith) hb hn fit) refl n
+
+    pub run-done : e ≤ i → Runs caption e base end (take base (cells bs₀ ns₀)) (take end (cells bs ns)) to starts tags d
+    run-done le =
+        let l = before-length in
+        let k : length (take e (take base (cells bs₀ ns₀))) ≡ e = length-take-le e (take base (cells bs₀ ns₀)) (omega arith) in
+        record {
+          done = λ _. subst (λ (m : ℕ). Reached caption e m end (take base (cells bs₀ ns₀)) (take end (cells bs ns)) to starts tags d) l
+              (running-end caption e end (take base (cells bs₀ ns₀)) (w .runs) (area-length bs ns end hb hn) fit (omega arith));
+          full = λ lt. absurd (omega arith);
+        }
+
+    module _ {bs' ns' : List ℕ} {to' : ℕ} {starts' tags' : List ℕ} {d' i' : ℕ} (t : TakesOne caption e base end bs ns to starts tags d i bs' ns' to' starts' tags' d' i')
+        (lb : length bs' ≡ length bs) (ln : length ns' ≡ length ns) where
+      pub run-on : to' ≤ end → RunningIn bs' ns' to' starts' tags' d' i'
+      run-on le = record {
+        runs = running-on caption e end (take base (cells bs₀ ns₀)) (w .runs) (area-length bs ns end hb hn) fit
+            (t .each (take base (cells bs₀ ns₀)) (w .runs .state) before-length (w .runs .stands)) (area-length bs' ns' end (omega arith) (omega arith)) le;
+      }
+
+      pub run-full : end < to' → Runs caption e base end (take base (cells bs₀ ns₀)) (take end (cells bs' ns')) to' starts' tags' d'
+      run-full lt = record {
+        done = λ le. absurd (omega arith);
+        full = λ _.
+            let l = before-length in
+            let f = running-full caption e end (take base (cells bs₀ ns₀)) (w .runs) (area-length bs ns end hb hn) fit
+            (t .each (take base (cells bs₀ ns₀)) (w .runs .state) before-length (w .runs .stands)) (area-length bs' ns' end (omega arith) (omega arith)) lt in
+            omega (arith, l, f);
+      }
+
+  -- all of it
+  module _ {v : List Cell} {to : ℕ} {starts tags : List ℕ} {d : ℕ} (r : Runs caption e base end (take base (cells bs₀ ns₀)) v to starts tags d) where
+    text-is : take e (take base (cells bs₀ ns₀)) ≡ take e (cells bs₀ ns₀)
+    text-is = take-take e base (cells bs₀ ns₀) he
+
+    pub pass-full : end < to → Leaves base end v to (quotes caption (take e (cells bs₀ ns₀))) (quotesNeed caption (take e (cells bs₀ ns₀)))
+    pass-full lt =
+        let f : end < base + quotesNeed caption (take e (cells bs₀ ns₀)) = rw (← text-is) (r .full lt) in
+        record { fits = λ le. absurd (omega (arith, f, le)); full = λ _. lt }
+
+    pub pass-done : {v' : List Cell} {to' : ℕ} → to ≤ end → ClosesAll caption e base end v to starts tags d v' to' → Leaves base end v' to' (quotes caption (take e (cells bs₀ ns₀))) (quotesNeed caption (take e (cells bs₀ ns₀)))
+    pass-done {v'} {to'} le cl =
+        let k = r .done le in
+        let c : Leaves base end v' to' (finish caption (k .now) (k .opened)) (finishNeed caption (k .now) (k .opened)) = cl (take base (cells bs₀ ns₀)) (k .now) (k .opened) before-length (k .stands) in
+        let q : quotes caption (take e (cells bs₀ ns₀)) ≡ finish caption (k .now) (k .opened) = rw (← text-is) (k .same) in
+        let n : max (end - base) (quotesNeed caption (take e (cells bs₀ ns₀))) ≡ max (end - base) (finishNeed caption (k .now) (k .opened)) = rw (← text-is) (k .need) in
+        record {
+          fits = λ h. rw q (c .fits (omega (arith, n, h)));
+          full = λ h. c .full (omega (arith, n, h));
+        }

@@ -1,0 +1,68 @@
+use borrow.Author.Needs.{needs}
+use native.Mathlib.Omega.{arith}
+use mathlib.Core.Path.{_≡_, refl, sym, ap, _∙_}
+use Prim.Native.Nat.{ℕ, suc, _+_, _-_, _≤_, _<_}
+use mathlib.Core.List.{List, [], _∷_, _++_}
+use lib.ListN.{length, getD}
+use Rattle.quote_blocks.proofs.Blocks.{lines-first, lines-none}
+use Rattle.quote_blocks.proofs.content.put_lines.Statement.{statement}
+use Rattle.quote_blocks.proofs.content.put_lines.Tie as tie
+use Rattle.quote_blocks.proofs.content.put_lines.Reads as reads
+use Rattle.quote_blocks.proofs.content.put_lines.Lts as lts
+use Rattle.quote_blocks.proofs.content.put_line.Reads as put-line-reads
+use Rattle.quote_blocks.proofs.content.put_more_lines.Reads as put-more-lines-reads
+use Rattle.text.proofs.trim.line_end.Reads as line-end-reads
+use Rattle.text.proofs.write.put_text.Reads as put-text-reads
+
+line-end-requires : tie.Need-line-end-requires
+line-end-requires c κs = search needs
+
+put-line-requires : tie.Need-put-line-requires
+put-line-requires c κs = search needs
+
+add-t19 : tie.Need-add-t19
+add-t19 c = search needs
+
+put-more-lines-requires : tie.Need-put-more-lines-requires
+put-more-lines-requires c κs = search needs
+
+same-length : tie.Need-same-length
+same-length c = search needs
+
+same-length-2 : tie.Need-same-length-2
+same-length-2 c = search needs
+
+returns : tie.Need-returns
+returns c = lines-first _ _ _ (c .before .before .before .before .before .before .before .before .before .before .before .before .before .before .line-end .ensures .1 .1) (c .before .before .before .before .before .before .before .before .before .before .before .put-line .ensures) (c .before .before .before .before .put-more-lines .ensures)
+
+slice-aggregate-put-text : tie.Need-slice-aggregate-put-text
+slice-aggregate-put-text c = search needs
+
+put-text-requires : tie.Need-put-text-requires
+put-text-requires c κs = search needs
+
+same-length-3 : tie.Need-same-length-3
+same-length-3 c = search needs
+
+same-length-4 : tie.Need-same-length-4
+same-length-4 c = search needs
+
+returns-2 : tie.Need-returns-2
+returns-2 c = lines-none _ _ _ (omega arith) (c .before .before .before .before .put-text .ensures)
+
+pub put-lines-spec : {M : Type 1} → statement M
+put-lines-spec =
+    tie.close
+    (tie.spec
+    line-end-requires
+    put-line-requires
+    add-t19
+    put-more-lines-requires
+    same-length
+    same-length-2
+    returns
+    slice-aggregate-put-text
+    put-text-requires
+    same-length-3
+    same-length-4
+    returns-2)

@@ -1,0 +1,2 @@
+// Quote blocks: the definition of the pass, and what a quote becomes.
+pub mod content;

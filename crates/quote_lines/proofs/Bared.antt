@@ -1,0 +1,132 @@
+-- Laws of reading a text without its backslashes. Assumes nothing.
+use mathlib.Core.Path.{_≡_, refl, sym, ap, _∙_}
+use Prim.Native.Nat.{ℕ, zero, suc, _+_, _-_, _≤_, _<_}
+use native.Mathlib.Omega.{arith}
+use native.Mathlib.Numerals.{add-one}
+use mathlib.Core.Bool.{Bool, true, false, cond, _&&_}
+use mathlib.Core.List.{List, [], _∷_}
+use lib.ListN.{length, drop, getD, drop-of-length-le}
+use lib.Seq.{drop-cons}
+use lib.Dec.{eqb}
+use borrow.Author.Tests.{eqb-true, eq-eqb, ne-eqb}
+use Rattle.text.specs.Ascii.{is}
+use Rattle.quote_lines.specs.Lines.{bare, same}
+use Rattle.quote_lines.specs.Tables.{PastBackslashes}
+
+module _ (s : List ℕ) (i : ℕ) where
+  bare-end : length s ≤ i → bare (drop i s) ≡ []
+  unfolding bare
+  bare-end le = rw (drop-of-length-le s {i = i} le)
+
+  bare-on : i < length s → is "\\" (getD s i 0) ≡ false → bare (drop i s) ≡ getD s i 0 ∷ bare (drop (i + 1) s)
+  unfolding bare
+  bare-on lt e = rw (add-one, drop-cons s i 0 lt, e)
+
+  bare-over : i < length s → is "\\" (getD s i 0) ≡ true → bare (drop i s) ≡ bare (drop (i + 1) s)
+  unfolding bare
+  bare-over lt e = rw (add-one, drop-cons s i 0 lt, e)
+
+-- ---- over backslashes
+
+pub record Past (s : List ℕ) (at i : ℕ) : Type 0 where
+  pub inside : i ≤ length s
+  pub later : at ≤ i
+  pub same : bare (drop i s) ≡ bare (drop at s)
+
+pub past : (s : List ℕ) (at : ℕ) → at ≤ length s → Past s at at
+past s at h = record { inside = h; later = omega arith; same = refl }
+
+module _ (s : List ℕ) (at i : ℕ) (w : Past s at i) where
+  pub past-end : length s ≤ i → PastBackslashes s at i
+  past-end le = record { inside = w .inside; later = w .later; same = w .same; stops = λ lt. absurd (omega (arith, le, lt)) }
+
+  module _ (lt : i < length s) where
+    pub past-here : (getD s i 0 ≡ 92 → ⊥) → PastBackslashes s at i
+    past-here n = record { inside = w .inside; later = w .later; same = w .same; stops = λ _. ne-eqb (getD s i 0) 92 n }
+
+    pub past-on : getD s i 0 ≡ 92 → Past s at (i + 1)
+    past-on e = record { inside = omega arith; later = omega (arith, w .later); same = sym (bare-over s i lt (eq-eqb (getD s i 0) 92 e)) ∙ w .same }
+
+-- ---- counting the others
+
+pub record Counting (s : List ℕ) (n i : ℕ) : Type 0 where
+  pub count : n + length (bare (drop i s)) ≡ length (bare s)
+  pub few : n ≤ i
+  pub inside : i ≤ length s
+  pub stops : i < length s → is "\\" (getD s i 0) ≡ false
+
+pub counting : (s : List ℕ) {i : ℕ} → PastBackslashes s 0 i → Counting s 0 i
+counting s p = let e = ap length (p .same) in record { count = omega (arith, e); few = omega arith; inside = p .inside; stops = p .stops }
+
+module _ (s : List ℕ) (n i : ℕ) (w : Counting s n i) where
+  pub counting-on : {r : ℕ} → i < length s → PastBackslashes s (i + 1) r → Counting s (n + 1) r
+  counting-on {r} lt p =
+      let e : length (bare (drop i s)) ≡ suc (length (bare (drop (i + 1) s))) = ap length (bare-on s i lt (w .stops lt)) in
+      let d : length (bare (drop r s)) ≡ length (bare (drop (i + 1) s)) = ap length (p .same) in
+      record { count = omega (arith, e, d, w .count); few = omega (arith, w .few, p .later); inside = p .inside; stops = p .stops }
+
+  pub counting-end : length s ≤ i → (n ≡ length (bare s)) × (n ≤ length s)
+  counting-end le =
+      let e : length (bare (drop i s)) ≡ 0 = ap length (bare-end s i le) in
+      (omega (arith, e, w .count), omega (arith, w .few, w .inside))
+
+-- ---- comparing
+
+pub record Comparing (s a : List ℕ) (i j : ℕ) : Type 0 where
+  pub whole : same (bare (drop i s)) (bare (drop j a)) ≡ same (bare s) (bare a)
+  pub inside : i ≤ length s
+  pub inside-other : j ≤ length a
+  pub stops : i < length s → is "\\" (getD s i 0) ≡ false
+  pub stops-other : j < length a → is "\\" (getD a j 0) ≡ false
+
+pub comparing : (s a : List ℕ) {i j : ℕ} → PastBackslashes s 0 i → PastBackslashes a 0 j → Comparing s a i j
+comparing s a p q = record { whole = rw (p .same, q .same); inside = p .inside; inside-other = q .inside; stops = p .stops; stops-other = q .stops }
+
+module _ (s a : List ℕ) (i j : ℕ) (w : Comparing s a i j) where
+  pub comparing-short : i < length s → length a ≤ j → false ≡ same (bare s) (bare a)
+  unfolding same
+  comparing-short lt le = sym (sym (w .whole) ∙ rw (bare-on s i lt (w .stops lt), bare-end a j le))
+
+  pub comparing-long : length s ≤ i → j < length a → false ≡ same (bare s) (bare a)
+  unfolding same
+  comparing-long le lt = sym (sym (w .whole) ∙ rw (bare-end s i le, bare-on a j lt (w .stops-other lt)))
+
+  pub comparing-end : length s ≤ i → length a ≤ j → true ≡ same (bare s) (bare a)
+  unfolding same
+  comparing-end le ge = sym (sym (w .whole) ∙ rw (bare-end s i le, bare-end a j ge))
+
+  module _ (lt : i < length s) (lo : j < length a) where
+    both : same (bare (drop i s)) (bare (drop j a)) ≡ (eqb (getD s i 0) (getD a j 0) && same (bare (drop (i + 1) s)) (bare (drop (j + 1) a)))
+    unfolding same
+    both = rw (bare-on s i lt (w .stops lt), bare-on a j lo (w .stops-other lo))
+
+    pub comparing-other : (getD s i 0 ≡ getD a j 0 → ⊥) → false ≡ same (bare s) (bare a)
+    comparing-other n = sym (sym (w .whole) ∙ both ∙ rw (ne-eqb (getD s i 0) (getD a j 0) n))
+
+    pub comparing-on : {r q : ℕ} → getD s i 0 ≡ getD a j 0 → PastBackslashes s (i + 1) r → PastBackslashes a (j + 1) q → Comparing s a r q
+    comparing-on {r} {q} e p o = record {
+      whole = rw (p .same, o .same) (sym (both ∙ rw (eq-eqb (getD s i 0) (getD a j 0) e)) ∙ w .whole);
+      inside = p .inside;
+      inside-other = o .inside;
+      stops = p .stops;
+      stops-other = o .stops;
+    }
+
+-- texts of different lengths are not the same
+same-long : (x y : List ℕ) → same x y ≡ true → length x ≡ length y
+unfolding same
+same-long [] [] e = refl
+same-long [] (b ∷ y) e = let z : true ≡ false = sym e in cc
+same-long (a ∷ x) [] e = let z : true ≡ false = sym e in cc
+same-long (a ∷ x) (b ∷ y) e = by (eqb a b) e (same-long x y)
+  where
+    by : (t : Bool) → (t && same x y) ≡ true → (same x y ≡ true → length x ≡ length y) → suc (length x) ≡ suc (length y)
+    by true f k = ap suc (k f)
+    by false f k = let z : true ≡ false = sym f in cc
+
+pub other-length : (x y : List ℕ) → (length x ≡ length y → ⊥) → false ≡ same x y
+other-length x y n = by (same x y) refl
+  where
+    by : (t : Bool) → same x y ≡ t → false ≡ same x y
+    by true e = absurd (n (same-long x y e))
+    by false e = sym e

@@ -1,0 +1,261 @@
+-- Laws of the table of quote tags: s is the text, ns the numbers. Assumes nothing.
+use mathlib.Core.Path.{_≡_, refl, sym, ap, subst, _∙_}
+use Prim.Native.Nat.{ℕ, zero, suc, _+_, _-_, _*_, _≤_, _<_}
+use native.Mathlib.Nat.{add-zero}
+use native.Mathlib.Omega.{arith}
+use native.Mathlib.Decide.{decLe}
+use native.Mathlib.Numerals.{add-one}
+use mathlib.Core.Bool.{Bool, true, false, cond, _&&_, _||_, true≢false}
+use mathlib.Core.List.{List, [], _∷_, _++_}
+use lib.ListN.{length, take, drop, getD, set, length-set, length-drop, drop-of-length-le}
+use lib.Seq.{drop-cons, drop-drop, getD-drop, getD-take, getD-set-same, getD-set-other, take-take, take-set-le}
+use lib.Dec.{eqb, ltb}
+use borrow.Author.Tests.{eqb-true, eq-eqb, ne-eqb}
+use Rattle.text.specs.Ascii.{is, begins, small, inside, toFirst, toBracket}
+use Rattle.quote_lines.specs.Tags.{beginsAny, tagSize, upToBracket, openers, openerSize, attributionOf}
+use Rattle.quote_lines.specs.Lines.{Tag, bare, tagOf, lineAfter, tags}
+use Rattle.quote_lines.specs.Tables.{wordsAt, WordsAt, TagAt, noTag, TagsAt, Table, Tabled, linesBehind}
+
+-- ---- lines
+
+pub line-feed : (b line : ℕ) → b ≡ 10 → line + 1 ≡ lineAfter b line
+line-feed b line e = rw (eq-eqb b 10 e, add-one)
+
+-- the line behind what stands from i up to e is the line behind what stands from a up to e
+pub record Behind (s : List ℕ) (a e line i now : ℕ) : Type 0 where
+  pub same : linesBehind now (take (e - i) (drop i s)) ≡ linesBehind line (take (e - a) (drop a s))
+  pub most : now ≤ line + (i - a)
+  pub order : a ≤ i
+  pub inside : i ≤ e
+
+pub behind : (s : List ℕ) (a e line : ℕ) → a ≤ e → Behind s a e line a line
+behind s a e line h = record { same = refl; most = omega arith; order = omega arith; inside = h }
+
+module _ (s : List ℕ) (a e line i now : ℕ) (w : Behind s a e line i now) where
+  pub behind-on : {next : ℕ} → i < e → e ≤ length s → (next ≡ lineAfter (getD s i 0) now) × (next ≤ now + 1) → Behind s a e line (i + 1) next
+  unfolding linesBehind
+  behind-on {next} lt le (q, m) =
+      let k : e - i ≡ suc (e - (i + 1)) = omega arith in
+      let d : drop i s ≡ getD s i 0 ∷ drop (i + 1) s = rw add-one (drop-cons s i 0 (omega arith)) in
+      let t : linesBehind now (take (e - i) (drop i s)) ≡ linesBehind next (take (e - (i + 1)) (drop (i + 1) s)) = rw (k, d, q) in
+      record { same = sym t ∙ w .same; most = omega (arith, w .most, w .order); order = omega (arith, w .order); inside = omega arith }
+
+  pub behind-end : e ≤ i → (now ≡ linesBehind line (take (e - a) (drop a s))) × (now ≤ line + (e - a))
+  unfolding linesBehind
+  behind-end le =
+      let z : e - i ≡ 0 = omega arith in
+      let t : linesBehind now (take (e - i) (drop i s)) ≡ now = rw z in
+      (sym t ∙ w .same, omega (arith, w .most, w .inside))
+
+-- ---- the tags from a place on
+
+tags-skip : (k line : ℕ) (x : List ℕ) → tags line k x ≡ tags (linesBehind line (take k x)) 0 (drop k x)
+unfolding tags linesBehind
+tags-skip zero line x = refl
+tags-skip (suc k) line [] = refl
+tags-skip (suc k) line (b ∷ x) = tags-skip k (lineAfter b line) x
+
+no-opener : openerSize [] ≡ 0
+unfolding openerSize tagSize beginsAny begins
+no-opener = refl
+
+first-tag : (line k : ℕ) (x : List ℕ) → openerSize x ≡ suc k
+    → tags line 0 x ≡ record { line = line; attribution = attributionOf x } ∷ tags (linesBehind line (take (suc k) x)) 0 (drop (suc k) x)
+unfolding tags linesBehind
+first-tag line k [] e = absurd (omega (arith, e, no-opener))
+first-tag line k (b ∷ x) e = let q : suc k - 1 ≡ k = omega arith in rw (e, q, tags-skip k (lineAfter b line) x)
+
+first-byte : (line b : ℕ) (x : List ℕ) → openerSize (b ∷ x) ≡ 0 → tags line 0 (b ∷ x) ≡ tags (linesBehind line (take 1 (b ∷ x))) 0 x
+unfolding tags linesBehind
+first-byte line b x e = rw e
+
+module _ (s : List ℕ) (i line k : ℕ) (e : k ≡ openerSize (drop i s)) where
+  tags-byte : i < length s → k ≡ 0 → tags line 0 (drop i s) ≡ tags (linesBehind line (take (i + 1 - i) (drop i s))) 0 (drop (i + 1) s)
+  tags-byte lt z =
+      let q : i + 1 - i ≡ 1 = omega arith in
+      let d : drop i s ≡ getD s i 0 ∷ drop (i + 1) s = rw add-one (drop-cons s i 0 lt) in
+      rw (q, d) (first-byte line (getD s i 0) (drop (i + 1) s) (ap openerSize (sym d) ∙ sym e ∙ z))
+
+  tags-opener : (k ≡ 0 → ⊥)
+      → tags line 0 (drop i s) ≡ record { line = line; attribution = take (k - 8) (drop (i + 7) s) } ∷ tags (linesBehind line (take (i + k - i) (drop i s))) 0 (drop (i + k) s)
+  unfolding attributionOf
+  tags-opener n =
+      let q : i + k - i ≡ suc (k - 1) = omega arith in
+      let r : k ≡ suc (k - 1) = omega arith in
+      let f = first-tag line (k - 1) (drop i s) (sym e ∙ r) in
+      rw (q, ← drop-drop k i s, ← drop-drop 7 i s) (f ∙ rw (← e, ← r))
+
+-- ---- an opener has at least 7 bytes
+
+bracket-later : (w x : List ℕ) → begins w x ≡ true → toBracket w ≤ toBracket x
+unfolding begins toBracket toFirst small inside
+bracket-later [] x h = omega arith
+bracket-later (a ∷ w) [] h = absurd (true≢false (sym h))
+bracket-later (a ∷ w) (b ∷ x) h = by (eqb (small b) a) refl h (bracket-later w x)
+  where
+    at : (t u : Bool) → eqb a 93 ≡ t → eqb b 93 ≡ u → eqb (small b) a ≡ true → toFirst (is "]") w ≤ toFirst (is "]") x
+        → cond t 0 (suc (toFirst (is "]") w)) ≤ cond u 0 (suc (toFirst (is "]") x))
+    at true u p q e k = omega arith
+    at false false p q e k = omega arith
+    at false true p q e k =
+        let f : b ≡ 93 = eqb-true b 93 q in
+        let g : small b ≡ 93 = rw f in
+        let j : a ≡ 93 = sym (eqb-true (small b) a e) ∙ g in
+        absurd (true≢false (sym (eq-eqb a 93 j) ∙ p))
+
+    by : (t : Bool) → eqb (small b) a ≡ t → (t && begins w x) ≡ true → (begins w x ≡ true → toFirst (is "]") w ≤ toFirst (is "]") x)
+        → cond (is "]" a) 0 (suc (toFirst (is "]") w)) ≤ cond (is "]" b) 0 (suc (toFirst (is "]") x))
+    by true e f k = at (is "]" a) (is "]" b) refl refl e (k f)
+    by false e f k = absurd (true≢false (sym f))
+
+abbrev Long : List (List ℕ) → Type 0
+Long [] = Unit
+Long (w ∷ ws) = (6 ≤ toBracket w) × Long ws
+
+any-long : (ws : List (List ℕ)) (x : List ℕ) → Long ws → beginsAny ws x ≡ true → 6 ≤ toBracket x
+unfolding beginsAny
+any-long [] x l h = absurd (true≢false (sym h))
+any-long (w ∷ ws) x (l, m) h = by (begins w x) refl h (any-long ws x m)
+  where
+    by : (t : Bool) → begins w x ≡ t → (t || beginsAny ws x) ≡ true → (beginsAny ws x ≡ true → 6 ≤ toBracket x) → 6 ≤ toBracket x
+    by true e f k = let z = bracket-later w x e in omega (arith, z, l)
+    by false e f k = k f
+
+openers-long : Long openers
+unfolding toBracket toFirst
+openers-long = (omega arith, (omega arith, (omega arith, tt)))
+
+pub opener-long : (x : List ℕ) {k : ℕ} → k ≡ openerSize x → (k ≡ 0 → ⊥) → 7 ≤ k
+unfolding openerSize tagSize upToBracket
+opener-long x {k} e n = by (beginsAny openers x) refl (ltb (toBracket x) (length x)) e
+  where
+    by : (t : Bool) → beginsAny openers x ≡ t → (u : Bool) → k ≡ cond t (cond u (suc (toBracket x)) 0) 0 → 7 ≤ k
+    by true p true q = let z = any-long openers x openers-long p in omega (arith, z, q)
+    by true p false q = absurd (n q)
+    by false p u q = absurd (n q)
+
+-- ---- numbers that stand
+
+same-before : (q : ℕ) (ns ns' : List ℕ) → take q ns' ≡ take q ns → (j : ℕ) → j < q → getD ns' j 0 ≡ getD ns j 0
+same-before q ns ns' e j h = sym (getD-take q ns' j 0 h) ∙ ap (λ (l : List ℕ). getD l j 0) e ∙ getD-take q ns j 0 h
+
+pub take-less : (q t : ℕ) (ns ns' : List ℕ) → take q ns' ≡ take q ns → t ≤ q → take t ns' ≡ take t ns
+take-less q t ns ns' e h = sym (take-take t q ns' h) ∙ ap (take t) e ∙ take-take t q ns h
+
+tag-kept : (s ns ns' : List ℕ) (q p line : ℕ) (words : List ℕ) → take q ns' ≡ take q ns → p + 4 ≤ q → TagAt s ns p line words → TagAt s ns' p line words
+unfolding wordsAt
+tag-kept s ns ns' q p line words e h w =
+    let a = same-before q ns ns' e p (omega arith) in
+    let b = same-before q ns ns' e (p + 1) (omega arith) in
+    let c = same-before q ns ns' e (p + 2) (omega arith) in
+    let d = same-before q ns ns' e (p + 3) (omega arith) in
+    record {
+      stands = record { inside = rw (b, c) (w .stands .inside); size = rw (b, c, d) (w .stands .size) };
+      line-is = a ∙ w .line-is;
+      words-are = rw (b, c) (w .words-are);
+    }
+
+-- the four numbers of a tag, written at p
+module _ (s ns : List ℕ) (p line a size short : ℕ) (h : a + size ≤ length s) (g : p + 4 ≤ length ns) (e : short ≡ length (bare (take size (drop a s)))) where
+  abbrev ns₁ : List ℕ
+  ns₁ = set ns p line
+
+  abbrev ns₂ : List ℕ
+  ns₂ = set ns₁ (p + 1) a
+
+  abbrev ns₃ : List ℕ
+  ns₃ = set ns₂ (p + 2) size
+
+  abbrev ns₄ : List ℕ
+  ns₄ = set ns₃ (p + 3) short
+
+  pub tag-put : TagAt s (set (set (set (set ns p line) (p + 1) a) (p + 2) size) (p + 3) short) p line (take size (drop a s))
+      × (take p (set (set (set (set ns p line) (p + 1) a) (p + 2) size) (p + 3) short) ≡ take p ns)
+  unfolding wordsAt
+  tag-put =
+      let l₁ : length ns₁ ≡ length ns = length-set ns p line in
+      let l₂ : length ns₂ ≡ length ns = length-set ns₁ (p + 1) a ∙ l₁ in
+      let l₃ : length ns₃ ≡ length ns = length-set ns₂ (p + 2) size ∙ l₂ in
+      let g₃ : getD ns₄ (p + 3) 0 ≡ short = getD-set-same ns₃ (p + 3) short 0 (omega arith) in
+      let g₂ : getD ns₄ (p + 2) 0 ≡ size = getD-set-other ns₃ (p + 3) (p + 2) short 0 (λ q. omega (arith, q)) ∙ getD-set-same ns₂ (p + 2) size 0 (omega arith) in
+      let g₁ : getD ns₄ (p + 1) 0 ≡ a =
+      getD-set-other ns₃ (p + 3) (p + 1) short 0 (λ q. omega (arith, q)) ∙ getD-set-other ns₂ (p + 2) (p + 1) size 0 (λ q. omega (arith, q)) ∙ getD-set-same ns₁ (p + 1) a 0 (omega arith) in
+      let g₀ : getD ns₄ p 0 ≡ line =
+      getD-set-other ns₃ (p + 3) p short 0 (λ q. omega (arith, q)) ∙ getD-set-other ns₂ (p + 2) p size 0 (λ q. omega (arith, q))
+      ∙ getD-set-other ns₁ (p + 1) p a 0 (λ q. omega (arith, q)) ∙ getD-set-same ns p line 0 (omega arith) in (
+        record {
+          stands = record { inside = rw (g₁, g₂) h; size = rw (g₁, g₂, g₃) e };
+          line-is = g₀;
+          words-are = rw (g₁, g₂);
+        },
+        take-set-le p ns₃ (p + 3) short (omega arith) ∙ take-set-le p ns₂ (p + 2) size (omega arith)
+            ∙ take-set-le p ns₁ (p + 1) a (omega arith) ∙ take-set-le p ns p line (omega arith),
+      )
+
+-- ---- reading
+
+pub tabled : (s ns : List ℕ) (t : ℕ) → Tabled s ns t 0 1 0
+tabled s ns t = record { rest = refl; some = omega arith; few = omega arith; line-most = omega arith; each = λ k lt. absurd (omega (arith, lt)) }
+
+module _ (s ns : List ℕ) (t i line count : ℕ) (w : Tabled s ns t i line count) where
+  pub tabled-byte : {k next : ℕ} → k ≡ openerSize (drop i s) → k ≡ 0 → i < length s
+      → (next ≡ linesBehind line (take (i + 1 - i) (drop i s))) × (next ≤ line + (i + 1 - i)) → Tabled s ns t (i + 1) next count
+  tabled-byte {k} {next} e z lt (q, m) = record {
+    rest = w .rest ∙ tags-byte s i line k e lt z ∙ ap (λ (l : ℕ). tags l 0 (drop (i + 1) s)) (sym q);
+    some = w .some;
+    few = omega (arith, w .few);
+    line-most = omega (arith, m, w .line-most);
+    each = w .each;
+  }
+
+  module _ (k : ℕ) (e : k ≡ openerSize (drop i s)) (n : k ≡ 0 → ⊥) where
+    comes : Tag
+    comes = record { line = line; attribution = take (k - 8) (drop (i + 7) s) }
+
+    more : List Tag
+    more = tags (linesBehind line (take (i + k - i) (drop i s))) 0 (drop (i + k) s)
+
+    split : drop count (tags 1 0 s) ≡ comes ∷ more
+    unfolding comes more
+    split = w .rest ∙ tags-opener s i line k e n
+
+    here : getD (tags 1 0 s) count noTag ≡ comes
+    here =
+        let a : getD (drop count (tags 1 0 s)) 0 noTag ≡ getD (tags 1 0 s) count noTag = rw (getD-drop count (tags 1 0 s) 0 noTag, add-zero) in
+        sym a ∙ ap (λ (l : List Tag). getD l 0 noTag) split
+
+    -- there is room for it
+    pub tabled-room : {k' : ℕ} → k' ≡ k → i + k' ≤ length s → t + length s ≤ length ns → t + 4 * count + 4 ≤ length ns
+    tabled-room r le lr = let l = opener-long (drop i s) e n in omega (arith, l, r, w .few)
+
+    pub tabled-opener : (ns' : List ℕ) {next size : ℕ} → size ≡ k - 8
+        → TagAt s ns' (t + 4 * count) line (take size (drop (i + 7) s)) × (take (t + 4 * count) ns' ≡ take (t + 4 * count) ns)
+        → (next ≡ linesBehind line (take (i + k - i) (drop i s))) × (next ≤ line + (i + k - i)) → Tabled s ns' t (i + k) next (count + 1)
+    unfolding comes more
+    tabled-opener ns' {next} {size} z (g, b) (q, m) =
+        let l = opener-long (drop i s) e n in
+        let d : length (drop count (tags 1 0 s)) ≡ length (tags 1 0 s) - count = length-drop count (tags 1 0 s) in
+        let u : length (drop count (tags 1 0 s)) ≡ suc (length more) = ap length split in
+        record {
+          rest = sym (drop-drop 1 count (tags 1 0 s)) ∙ ap (drop 1) split ∙ ap (λ (l : ℕ). tags l 0 (drop (i + k) s)) (sym q);
+          some = omega (arith, d, u);
+          few = omega (arith, l, w .few);
+          line-most = omega (arith, m, w .line-most);
+          each = λ j lt. at j lt (decLe count j);
+        }
+      where
+        new : TagAt s ns' (t + 4 * count) (getD (tags 1 0 s) count noTag .line) (getD (tags 1 0 s) count noTag .attribution)
+        new = rw here (subst (λ (y : ℕ). TagAt s ns' (t + 4 * count) line (take y (drop (i + 7) s))) z g)
+
+        at : (j : ℕ) → j < count + 1 → Dec (count ≤ j) → TagAt s ns' (t + 4 * j) (getD (tags 1 0 s) j noTag .line) (getD (tags 1 0 s) j noTag .attribution)
+        at j lt (yes p) = let c : count ≡ j = omega (arith, lt, p) in subst (λ (y : ℕ). TagAt s ns' (t + 4 * y) (getD (tags 1 0 s) y noTag .line) (getD (tags 1 0 s) y noTag .attribution)) c new
+        at j lt (no p) = tag-kept s ns ns' (t + 4 * count) (t + 4 * j) _ _ b (omega (arith, p)) (w .each j (omega (arith, p)))
+
+  pub tabled-end : length s ≤ i → i ≤ length s → t + length s ≤ length ns → Table s ns t count
+  unfolding tags
+  tabled-end le ge room =
+      let a : drop i s ≡ [] = drop-of-length-le s {i = i} le in
+      let b : tags line 0 (drop i s) ≡ [] = rw a in
+      let d : length (drop count (tags 1 0 s)) ≡ length (tags 1 0 s) - count = length-drop count (tags 1 0 s) in
+      let z : length (drop count (tags 1 0 s)) ≡ 0 = ap length (w .rest ∙ b) in
+      record { all = omega (arith, d, z, w .some); room = omega (arith, w .few); each = w .each }

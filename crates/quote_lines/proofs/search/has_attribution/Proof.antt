@@ -1,0 +1,97 @@
+use borrow.Author.Needs.{needs}
+use native.Mathlib.Omega.{arith}
+use mathlib.Core.Path.{_≡_, refl, sym, ap, _∙_}
+use Prim.Native.Nat.{ℕ, suc, _+_, _-_, _≤_, _<_}
+use mathlib.Core.List.{List, [], _∷_, _++_}
+use lib.ListN.{length, getD}
+use lib.ListN.{take, drop}
+use Rattle.quote_lines.proofs.Bared.{other-length}
+use Rattle.quote_lines.specs.Tables.{wordsAt}
+use Rattle.quote_lines.specs.Lines.{bare, same}
+use Rattle.quote_lines.proofs.search.has_attribution.Statement.{statement}
+use Rattle.quote_lines.proofs.search.has_attribution.Tie as tie
+use Rattle.quote_lines.proofs.search.has_attribution.Reads as reads
+use Rattle.quote_lines.proofs.search.has_attribution.Lts as lts
+use Rattle.quote_lines.proofs.search.same_bare.Reads as same-bare-reads
+
+add-bare : tie.Need-add-bare
+add-bare c = search needs
+
+mul-bare : tie.Need-mul-bare
+mul-bare c = search needs
+
+shared-slice-read-bare : tie.Need-shared-slice-read-bare
+shared-slice-read-bare c = search needs
+
+cast-bare : tie.Need-cast-bare
+cast-bare c = omega (arith, c .shared-slice-known4 .given (c .before .before .before .before .args .p + 3))
+
+returns : tie.Need-returns
+returns c = let a = c .before .before .before .before .before in other-length _ _ (λ e. c .if1 .taken (a .pre .1 .size ∙ e ∙ sym (a .pre .0 .1)))
+
+add-a : tie.Need-add-a
+add-a c = search needs
+
+mul-a : tie.Need-mul-a
+mul-a c = search needs
+
+shared-slice-read-a : tie.Need-shared-slice-read-a
+shared-slice-read-a c = search needs
+
+cast-a : tie.Need-cast-a
+cast-a c = search needs
+
+add-e : tie.Need-add-e
+add-e c = search needs
+
+mul-e : tie.Need-mul-e
+mul-e c = search needs
+
+shared-slice-read-e : tie.Need-shared-slice-read-e
+shared-slice-read-e c = search needs
+
+cast-e : tie.Need-cast-e
+cast-e c = search needs
+
+add-e-2 : tie.Need-add-e-2
+add-e-2 c = search needs
+
+sub-same-bare : tie.Need-sub-same-bare
+sub-same-bare c = search needs
+
+part-same-bare-start : tie.Need-part-same-bare-start
+part-same-bare-start c = search needs
+
+part-same-bare-end : tie.Need-part-same-bare-end
+part-same-bare-end c = search needs
+
+same-bare-requires : tie.Need-same-bare-requires
+same-bare-requires c κs = search needs
+
+returns-2 : tie.Need-returns-2
+unfolding wordsAt
+returns-2 c = let a = c .before .before .before .before .before .before .before .before .before in let q : getD (a .args .numbers .now) (a .args .p + 1) 0 + getD (a .args .numbers .now) (a .args .p + 2) 0 - getD (a .args .numbers .now) (a .args .p + 1) 0 ≡ getD (a .args .numbers .now) (a .args .p + 2) 0 = omega arith in c .same-bare .ensures ∙ ap (λ (y : ℕ). same (bare (take y (drop (getD (a .args .numbers .now) (a .args .p + 1) 0) (a .args .s .now)))) (bare (a .args .attribution .now))) q
+
+pub has-attribution-spec : {M : Type 1} → statement M
+has-attribution-spec =
+    tie.close
+    (tie.spec
+    add-bare
+    mul-bare
+    shared-slice-read-bare
+    cast-bare
+    returns
+    add-a
+    mul-a
+    shared-slice-read-a
+    cast-a
+    add-e
+    mul-e
+    shared-slice-read-e
+    cast-e
+    add-e-2
+    sub-same-bare
+    part-same-bare-start
+    part-same-bare-end
+    same-bare-requires
+    returns-2)

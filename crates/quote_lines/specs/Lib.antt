@@ -1,0 +1,4 @@
+pub mod Tags
+pub mod Masks
+pub mod Lines
+pub mod Tables

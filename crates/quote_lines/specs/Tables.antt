@@ -1,0 +1,56 @@
+-- The table of the quote tags of a text s in code, from place t of a slice of numbers on: for each tag four numbers, its line, the place and
+-- the length of its attribution in s, and the length of that without backslashes.
+--   wordsAt s ns p        the attribution of the tag whose numbers stand at p
+--   TagAt s ns p tag      the numbers at p are those of a tag
+--   Table s ns t count    the table holds the tags of s, so many
+--   Tabled s ns t i line count  it holds those that begin before place i, where this line is
+--   linesBehind line s    the line behind s, where it begins in this line
+--   PastBackslashes s i r   r is the first place from i on with another byte than a backslash, or the end
+-- Assumes nothing.
+use mathlib.Core.Path.{_≡_}
+use Prim.Native.Nat.{ℕ, _+_, _*_, _≤_, _<_}
+use mathlib.Core.Bool.{false}
+use mathlib.Core.List.{List, [], _∷_}
+use lib.ListN.{length, take, drop, getD}
+use Rattle.text.specs.Ascii.{is}
+use Rattle.quote_lines.specs.Lines.{Tag, bare, lineAfter, tags}
+
+unfoldable pub wordsAt : (s ns : List ℕ) → ℕ → List ℕ
+wordsAt s ns p = take (getD ns (p + 2) 0) (drop (getD ns (p + 1) 0) s)
+
+pub record WordsAt (s ns : List ℕ) (p : ℕ) : Type 0 where
+  pub inside : getD ns (p + 1) 0 + getD ns (p + 2) 0 ≤ length s
+  pub size : getD ns (p + 3) 0 ≡ length (bare (wordsAt s ns p))
+
+pub record TagAt (s ns : List ℕ) (p line : ℕ) (attribution : List ℕ) : Type 0 where
+  pub stands : WordsAt s ns p
+  pub line-is : getD ns p 0 ≡ line
+  pub words-are : wordsAt s ns p ≡ attribution
+
+abbrev pub noTag : Tag
+noTag = record { line = 1; attribution = [] }
+
+abbrev pub TagsAt : (s ns : List ℕ) (t count : ℕ) → Type 0
+TagsAt s ns t count = (k : ℕ) → k < count → TagAt s ns (t + 4 * k) (getD (tags 1 0 s) k noTag .line) (getD (tags 1 0 s) k noTag .attribution)
+
+pub record Table (s ns : List ℕ) (t count : ℕ) : Type 0 where
+  pub all : count ≡ length (tags 1 0 s)
+  pub room : t + 4 * count ≤ length ns
+  pub each : TagsAt s ns t count
+
+pub record Tabled (s ns : List ℕ) (t i line count : ℕ) : Type 0 where
+  pub rest : drop count (tags 1 0 s) ≡ tags line 0 (drop i s)
+  pub some : count ≤ length (tags 1 0 s)
+  pub few : 7 * count ≤ i
+  pub line-most : line ≤ i + 1
+  pub each : TagsAt s ns t count
+
+unfoldable pub linesBehind : (line : ℕ) → List ℕ → ℕ
+linesBehind line [] = line
+linesBehind line (b ∷ s) = linesBehind (lineAfter b line) s
+
+pub record PastBackslashes (s : List ℕ) (i r : ℕ) : Type 0 where
+  pub inside : r ≤ length s
+  pub later : i ≤ r
+  pub same : bare (drop r s) ≡ bare (drop i s)
+  pub stops : r < length s → is "\\" (getD s r 0) ≡ false

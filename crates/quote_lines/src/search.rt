@@ -1,0 +1,229 @@
+// The quote tags of the original text, and the line of a converted quote.
+use crate::tag::bracket_from;
+use crate::tag::opener_size;
+use text::PostAt;
+use text::scan::next_bracket;
+ghost use mathlib.Core.Path.{_≡_};
+ghost use Prim.Native.Nat.{_+_, _-_, _*_, _≤_, _<_};
+ghost use lib.ListN.{length, take, drop};
+ghost use Rattle.quote_lines.specs.Tags.{NextBracket};
+ghost use Rattle.quote_lines.specs.Lines.{bare, lineAfter, tags, same, place, nextAfter, lineAt};
+ghost use Rattle.quote_lines.specs.Tables.{wordsAt, WordsAt, TagAt, Table, Tabled, linesBehind, PastBackslashes};
+
+// A place in the text, the place of the next `]`, the line there, and how many tags stand in the table.
+pub struct Reading {
+    pub at: PostAt,
+    pub bracket: PostAt,
+    pub line: usize,
+    pub count: usize,
+}
+
+// The line of a quote, and the tag that the next search begins at.
+pub struct Found {
+    pub line: u32,
+    pub next: usize,
+}
+
+// The first place from a place on with another byte than a backslash, or the end.
+fn past_backslashes(s: &[u8], at: usize) -> usize
+    requires { ⌜ at ≤ length (now s) ⌝ }
+    ensures { λ r. ⌜ PastBackslashes (now (s .entry)) at r ⌝ }
+{
+    let mut i = at;
+    while i < s.len() {
+        if s[i] != b'\\' {
+            return i;
+        }
+        i += 1;
+    }
+    i
+}
+
+// How many bytes a text has without its backslashes.
+fn bare_length(s: &[u8]) -> usize
+    ensures { λ r. ⌜ (r ≡ length (bare (now (s .entry)))) × (r ≤ length (now (s .entry))) ⌝ }
+{
+    let mut n: usize = 0;
+    let mut i = past_backslashes(s, 0);
+    while i < s.len() {
+        n += 1;
+        i = past_backslashes(s, i + 1);
+    }
+    n
+}
+
+// Whether two texts are the same without their backslashes.
+fn same_bare(s: &[u8], a: &[u8]) -> bool
+    ensures { λ r. ⌜ r ≡ same (bare (now (s .entry))) (bare (now (a .entry))) ⌝ }
+{
+    let mut i = past_backslashes(s, 0);
+    let mut j = past_backslashes(a, 0);
+    while i < s.len() {
+        if a.len() <= j {
+            return false;
+        }
+        if s[i] != a[j] {
+            return false;
+        }
+        i = past_backslashes(s, i + 1);
+        j = past_backslashes(a, j + 1);
+    }
+    if j < a.len() {
+        return false;
+    }
+    true
+}
+
+// The line behind a byte.
+fn line_after(b: u8, line: usize) -> usize
+    requires { ⌜ line ≤ 1000000 ⌝ }
+    ensures { λ r. ⌜ (r ≡ lineAfter b line) × (r ≤ line + 1) ⌝ }
+{
+    if b == b'\n' {
+        return line + 1;
+    }
+    line
+}
+
+// The line behind the text from a place up to another.
+fn line_behind(s: &[u8], a: usize, e: usize, line: usize) -> usize
+    requires { ⌜ (a ≤ e) × ((e ≤ length (now s)) × (line + (e - a) ≤ 1000000)) ⌝ }
+    ensures { λ r. ⌜ (r ≡ linesBehind line (take (e - a) (drop a (now (s .entry))))) × (r ≤ line + (e - a)) ⌝ }
+{
+    let mut i = a;
+    let mut now_line = line;
+    while i < e {
+        now_line = line_after(s[i], now_line);
+        i += 1;
+    }
+    now_line
+}
+
+// How many bytes the attribution of an opener of k bytes has.
+fn attribution_size(k: usize) -> usize
+    ensures { λ r. ⌜ r ≡ k - 8 ⌝ }
+{
+    if k < 8 {
+        return 0;
+    }
+    k - 8
+}
+
+// Writes the numbers of a tag in this line, whose attribution stands from a on.
+fn put_tag(s: &[u8], numbers: &mut [u32], p: usize, line: usize, a: usize, size: usize)
+    requires { ⌜ ((a + size ≤ length (now s)) × (length (now s) ≤ 262144)) × ((line ≤ 1000000) × (p + 4 ≤ length (now numbers))) ⌝ }
+    ensures { λ _. ⌜ TagAt (now (s .entry)) (now (numbers .exit)) p line (take size (drop a (now (s .entry)))) × (take p (now (numbers .exit)) ≡ take p (now (numbers .entry))) ⌝ }
+{
+    let e = a + size;
+    let bare = bare_length(&s[a..e]);
+    numbers[p] = line as u32;
+    numbers[p + 1] = a as u32;
+    numbers[p + 2] = size as u32;
+    numbers[p + 3] = bare as u32;
+}
+
+// Reads the tag or the byte at a place.
+fn read_tag(s: &[u8], numbers: &mut [u32], t: usize, from: Reading) -> Reading
+    requires { ⌜ ((from .at .0 < length (now s)) × (length (now s) ≤ 262144)) × ((t + length (now s) ≤ length (now numbers)) × (NextBracket (now s) (from .at .0) (from .bracket .0) × Tabled (now s) (now numbers) t (from .at .0) (from .line) (from .count))) ⌝ }
+    ensures { λ r. ⌜ ((from .at .0 < r .at .0) × (r .at .0 ≤ length (now (s .entry)))) × ((take t (now (numbers .exit)) ≡ take t (now (numbers .entry))) × (NextBracket (now (s .entry)) (r .at .0) (r .bracket .0) × Tabled (now (s .entry)) (now (numbers .exit)) t (r .at .0) (r .line) (r .count))) ⌝ }
+{
+    let at = from.at;
+    let known = from.bracket;
+    let line = from.line;
+    let count = from.count;
+    let i = at.0;
+    let bracket = bracket_from(s, at, known);
+    let k = opener_size(s, at, bracket);
+    if k == 0 {
+        let next = i + 1;
+        let line_next = line_behind(s, i, next, line);
+        return Reading {
+            at: PostAt(next),
+            bracket,
+            line: line_next,
+            count,
+        };
+    }
+    let size = attribution_size(k);
+    put_tag(s, numbers, t + 4 * count, line, i + 7, size);
+    let next = i + k;
+    let line_next = line_behind(s, i, next, line);
+    Reading {
+        at: PostAt(next),
+        bracket,
+        line: line_next,
+        count: count + 1,
+    }
+}
+
+// Writes the table of the quote tags of a text from place t of the numbers on, and returns how many there are.
+pub fn read_tags(s: &[u8], numbers: &mut [u32], t: usize) -> usize
+    requires { ⌜ (length (now s) ≤ 262144) × (t + length (now s) ≤ length (now numbers)) ⌝ }
+    ensures { λ r. ⌜ Table (now (s .entry)) (now (numbers .exit)) t r × (take t (now (numbers .exit)) ≡ take t (now (numbers .entry))) ⌝ }
+{
+    let mut st = Reading {
+        at: PostAt(0),
+        bracket: next_bracket(s, PostAt(0)),
+        line: 1,
+        count: 0,
+    };
+    let mut i: usize = 0;
+    while i < s.len() {
+        st = read_tag(s, numbers, t, st);
+        let at = st.at;
+        i = at.0;
+    }
+    st.count
+}
+
+// Whether the tag at p has an attribution that is the same without backslashes; `size` is how many bytes that has.
+fn has_attribution(s: &[u8], numbers: &[u32], p: usize, attribution: &[u8], size: usize) -> bool
+    requires { ⌜ ((p + 4 ≤ length (now numbers)) × (size ≡ length (bare (now attribution)))) × WordsAt (now s) (now numbers) p ⌝ }
+    ensures { λ r. ⌜ r ≡ same (bare (wordsAt (now (s .entry)) (now (numbers .entry)) p)) (bare (now (attribution .entry))) ⌝ }
+{
+    let bare = numbers[p + 3] as usize;
+    if bare != size {
+        return false;
+    }
+    let a = numbers[p + 1] as usize;
+    let e = a + numbers[p + 2] as usize;
+    same_bare(&s[a..e], attribution)
+}
+
+// The line of a quote with this attribution, searched from tag `next` on.
+pub fn line_of(
+    s: &[u8],
+    numbers: &[u32],
+    t: usize,
+    count: usize,
+    next: usize,
+    attribution: &[u8],
+) -> Found
+    requires { ⌜ Table (now s) (now numbers) t count ⌝ }
+    ensures { λ r. ⌜ (r .line ≡ lineAt (tags 1 0 (now (s .entry))) (place (tags 1 0 (now (s .entry))) next (now (attribution .entry)))) × (r .next ≡ nextAfter (tags 1 0 (now (s .entry))) next (now (attribution .entry))) ⌝ }
+{
+    let size = bare_length(attribution);
+    let mut i = next;
+    while i < count {
+        if has_attribution(s, numbers, t + 4 * i, attribution, size) {
+            return Found {
+                line: numbers[t + 4 * i],
+                next: i + 1,
+            };
+        }
+        i += 1;
+    }
+    if count == 0 {
+        return Found { line: 1, next };
+    }
+    if next < count {
+        return Found {
+            line: numbers[t + 4 * next],
+            next,
+        };
+    }
+    Found {
+        line: numbers[t + 4 * (count - 1)],
+        next,
+    }
+}
