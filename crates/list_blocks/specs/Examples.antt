@@ -29,6 +29,10 @@ empty-item : textOf "[list][*]a[*][*]b[/list]" ≡ ascii "\n\n- a\n\n- b\n\n"
 unfolding all
 empty-item = refl
 
+empty-item-counts : textOf "[list=1][*]a[*][*]b[/list]" ≡ ascii "\n\n1. a\n\n3. b\n\n"
+unfolding all
+empty-item-counts = refl
+
 inner : textOf "[list=1][*]a[list][*]b[/list][/list]" ≡ ascii "\n\n1. a\n   - b\n\n"
 unfolding all
 inner = refl
@@ -75,6 +79,10 @@ one-count = refl
 anew-at-item : textOf "[list][*]a[list][*]b[/list][list][*]c[/list][*]d[list][*]e[/list][/list]" ≡ ascii "\n\n- a\n  - b\n  * c\n- d\n  - e\n\n"
 unfolding all
 anew-at-item = refl
+
+reset-at-item : textOf "[list][*]a[list][*]b[/list][*]c[list][*]d[/list][/list]" ≡ ascii "\n\n- a\n  - b\n- c\n  - d\n\n"
+unfolding all
+reset-at-item = refl
 
 whole-text : textOf "[list][*]a[/list]x[list][*]b[/list]" ≡ ascii "\n\n- a\n\nx\n\n* b\n\n"
 unfolding all
