@@ -23,7 +23,7 @@ pub shift-shift : (m n : ℕ) (l : List Span) → map (shift m) (map (shift n) l
 shift-shift m n [] = refl
 shift-shift m n (s ∷ l) = rw (add-assoc m n (s .from), add-assoc m n (s .to)) (ap (λ (r : List Span). shift m (shift n s) ∷ r) (shift-shift m n l))
 
-shift-zero : (l : List Span) → map (shift 0) l ≡ l
+pub shift-zero : (l : List Span) → map (shift 0) l ≡ l
 shift-zero [] = refl
 shift-zero (s ∷ l) = rw (zero-add (s .from), zero-add (s .to), shift-zero l)
 
@@ -75,15 +75,15 @@ appends-if {v} {v'} {t} {at} {at'} t' l e a = elim (decLe at (length v)) [
 
 pub writes-none : (v : List Cell) (at : ℕ) (ss : List ℕ) (c : ℕ) → Writes v at ss c v at ss c (plain [])
 unfolding spanNumbers
-writes-none v at ss c = record { text = appends-none v at; count = omega arith; spans = λ h. sym (append-nil (take c ss)) }
+writes-none v at ss c = record { text = appends-none v at; count = omega arith; spans = λ h r. sym (append-nil (take c ss)) }
 
 pub writes-plain : {v v' : List Cell} {at at' : ℕ} (ss : List ℕ) (c : ℕ) (p : List Cell) → Appends v at v' at' p → Writes v at ss c v' at' ss c (plain p)
 unfolding spanNumbers
-writes-plain ss c p a = record { text = a; count = omega arith; spans = λ h. sym (append-nil (take c ss)) }
+writes-plain ss c p a = record { text = a; count = omega arith; spans = λ h r. sym (append-nil (take c ss)) }
 
-pub writes-then : {v v₁ v₂ : List Cell} {at at₁ at₂ : ℕ} {ss ss₁ ss₂ : List ℕ} {c c₁ c₂ : ℕ} {w w' : Written} → length v₁ ≡ length v → length v₂ ≡ length v₁
+pub writes-then : {v v₁ v₂ : List Cell} {at at₁ at₂ : ℕ} {ss ss₁ ss₂ : List ℕ} {c c₁ c₂ : ℕ} {w w' : Written} → length v₁ ≡ length v → length v₂ ≡ length v₁ → length ss₂ ≡ length ss₁
     → Writes v at ss c v₁ at₁ ss₁ c₁ w → Writes v₁ at₁ ss₁ c₁ v₂ at₂ ss₂ c₂ w' → Writes v at ss c v₂ at₂ ss₂ c₂ (w ▹ w')
-writes-then {v} {v₁} {v₂} {at} {at₁} {at₂} {ss} {ss₁} {ss₂} {c} {c₁} {c₂} {w} {w'} l₁ l₂ p q = record {
+writes-then {v} {v₁} {v₂} {at} {at₁} {at₂} {ss} {ss₁} {ss₂} {c} {c₁} {c₂} {w} {w'} l₁ l₂ ls p q = record {
   text = appends-then (p .text) (q .text);
   count =
       (let a = p .count in
@@ -91,9 +91,10 @@ writes-then {v} {v₁} {v₂} {at} {at₁} {at₂} {ss} {ss₁} {ss₂} {c} {c�
       let m = length-append (w .spans) (map (shift (length (w .cells))) (w' .spans)) in
       let n = length-map (w' .spans) (shift (length (w .cells))) in
       omega arith);
-  spans = λ h.
+  spans = λ h r.
       let g = q .text .grows in
+      let n = q .count in
       let e = appends-end (p .text) (omega arith) l₁ .0 in
-      q .spans h ∙ rw (p .spans (omega arith), e, map-append (shift at) (w .spans) (map (shift (length (w .cells))) (w' .spans)), shift-shift at (length (w .cells)) (w' .spans), numbers-append (map (shift at) (w .spans)) (map (shift (at + length (w .cells))) (w' .spans)))
+      q .spans h r ∙ rw (p .spans (omega arith) (omega arith), e, map-append (shift at) (w .spans) (map (shift (length (w .cells))) (w' .spans)), shift-shift at (length (w .cells)) (w' .spans), numbers-append (map (shift at) (w .spans)) (map (shift (at + length (w .cells))) (w' .spans)))
       (append-assoc (take c ss) (spanNumbers (map (shift at) (w .spans))) (spanNumbers (map (shift (at + length (w .cells))) (w' .spans))));
 }

@@ -8,27 +8,27 @@ use lib.ListN.{length, take, drop, getD, set, length-set, length-append, length-
 use lib.Seq.{take-suc, take-suc-set, take-set-le, take-set-lt, drop-set-lt, drop-append-le, length-take-le, getD-drop, getD-set-other, slice-empty, set-append-seam, set-at, take-take, drop-at}
 use Rattle.mark_writing.specs.Spans.{raised}
 
-raised-more : (by : ℕ) (l : List ℕ) (x : ℕ) → raised by (l ++ (x ∷ [])) ≡ raised by l ++ ((x + by) ∷ [])
-raised-more by [] x = refl
-raised-more by (y ∷ l) x = ap (λ (r : List ℕ). (y + by) ∷ r) (raised-more by l x)
+map-more : (f : ℕ → ℕ) (l : List ℕ) (x : ℕ) → map f (l ++ (x ∷ [])) ≡ map f l ++ (f x ∷ [])
+map-more f [] x = refl
+map-more f (y ∷ l) x = ap (λ (r : List ℕ). f y ∷ r) (map-more f l x)
 
 slice-more : (l : List ℕ) (a i : ℕ) → a ≤ i → i < length l → drop a (take (suc i) l) ≡ drop a (take i l) ++ (getD l i 0 ∷ [])
 slice-more l a i h k = let n = length-take-le i l (omega arith) in rw (take-suc l i 0 k) (drop-append-le a (take i l) (getD l i 0 ∷ []) (omega arith))
 
--- the loop at place i
-pub record Raising (by : ℕ) (ss₀ ss : List ℕ) (a i : ℕ) : Type 0 where
+-- a loop at place i that puts f of each number in the number's place, from place a on
+pub record Mapping (f : ℕ → ℕ) (ss₀ ss : List ℕ) (a i : ℕ) : Type 0 where
   pub from : a ≤ i
-  pub done : take i ss ≡ take a ss₀ ++ raised by (drop a (take i ss₀))
+  pub done : take i ss ≡ take a ss₀ ++ map f (drop a (take i ss₀))
   pub behind : (j : ℕ) → i ≤ j → getD ss j 0 ≡ getD ss₀ j 0
 
-pub raising-start : (by : ℕ) (ss : List ℕ) (a : ℕ) → Raising by ss ss a a
-raising-start by ss a = record { from = omega arith; done = rw (slice-empty a ss) (sym (append-nil (take a ss))); behind = λ j h. refl }
+pub mapping-start : (f : ℕ → ℕ) (ss : List ℕ) (a : ℕ) → Mapping f ss ss a a
+mapping-start f ss a = record { from = omega arith; done = rw (slice-empty a ss) (sym (append-nil (take a ss))); behind = λ j h. refl }
 
-pub raising-turn : (by : ℕ) (ss₀ ss : List ℕ) (a i : ℕ) → i < length ss → length ss ≡ length ss₀ → Raising by ss₀ ss a i → Raising by ss₀ (set ss i (getD ss i 0 + by)) a (i + 1)
-raising-turn by ss₀ ss a i h l m = let f = m .from in record {
+pub mapping-turn : (f : ℕ → ℕ) (ss₀ ss : List ℕ) (a i : ℕ) → i < length ss → length ss ≡ length ss₀ → Mapping f ss₀ ss a i → Mapping f ss₀ (set ss i (f (getD ss i 0))) a (i + 1)
+mapping-turn f ss₀ ss a i h l m = let b = m .from in record {
   from = omega arith;
-  done = rw (add-one, take-suc-set ss i (getD ss i 0 + by) h, m .done, slice-more ss₀ a i f (omega arith), raised-more by (drop a (take i ss₀)) (getD ss₀ i 0), m .behind i (omega arith)) (append-assoc (take a ss₀) (raised by (drop a (take i ss₀))) ((getD ss₀ i 0 + by) ∷ []));
-  behind = λ j q. getD-set-other ss i j (getD ss i 0 + by) 0 (λ z. omega arith) ∙ m .behind j (omega arith);
+  done = rw (add-one, take-suc-set ss i (f (getD ss i 0)) h, m .done, slice-more ss₀ a i b (omega arith), map-more f (drop a (take i ss₀)) (getD ss₀ i 0), m .behind i (omega arith)) (append-assoc (take a ss₀) (map f (drop a (take i ss₀))) (f (getD ss₀ i 0) ∷ []));
+  behind = λ j q. getD-set-other ss i j (f (getD ss i 0)) 0 (λ z. omega arith) ∙ m .behind j (omega arith);
 }
 
 two-more : (l : List ℕ) (c : ℕ) → c + 1 < length l → take (c + 2) l ≡ take c l ++ (getD l c 0 ∷ getD l (suc c) 0 ∷ [])

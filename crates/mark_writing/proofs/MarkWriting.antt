@@ -255,7 +255,7 @@ module _ (src ns : List ℕ) (k i before : ℕ) (v v₁ : List Cell) (out₂ org
       let o = opening-long form d in
       let f = b .forward in
       record {
-        wrote = record { text = rw wrapped (appends-longer (wrapText d form (body .cells)) l₂ h (omega arith) both); count = counted; spans = λ q. absurd (omega arith) };
+        wrote = record { text = rw wrapped (appends-longer (wrapText d form (body .cells)) l₂ h (omega arith) both); count = counted; spans = λ q r. absurd (omega arith) };
         state = λ q. absurd (omega arith);
         small = omega arith;
         behind = b .behind;
@@ -292,77 +292,81 @@ module _ (src ns : List ℕ) (k i before : ℕ) (v v₁ : List Cell) (out₂ org
         let y : e - 1 ≡ at + length (body .cells) = omega arith in
         sym (getD-take e out₂ (e - 1) 0 (omega arith)) ∙ ap₂ (λ (l : List ℕ) (n : ℕ). getD l n 0) text-there y ∙ ap (λ (n : ℕ). getD (bytes (take at v) ++ (d ∷ bytes (body .cells))) (n + length (body .cells)) 0) (sym front-long) ∙ edge-last (bytes (take at v)) d (body .cells) some
 
-    spans-there : take c₂ ss₂ ≡ take (c + 2) ss ++ spanNumbers (map (shift (at + 1)) (body .spans))
-    spans-there = b .wrote .spans fit ∙ ap (λ (n : ℕ). take (c + 2) ss ++ spanNumbers (map (shift n) (body .spans))) started
+    module _ (room : c₂ ≤ length ss₂) (ls : length ss₂ ≡ length ss) where
+      room-before : c + 2 ≤ length ss
+      room-before = let n = b .wrote .count in omega arith
 
-    module _ (room : c + 2 ≤ length ss) where
+      spans-there : take c₂ ss₂ ≡ take (c + 2) ss ++ spanNumbers (map (shift (at + 1)) (body .spans))
+      spans-there = b .wrote .spans fit room ∙ ap (λ (n : ℕ). take (c + 2) ss ++ spanNumbers (map (shift n) (body .spans))) started
+
       spans-inside : drop (c + 2) (take c₂ ss₂) ≡ spanNumbers (map (shift (at + 1)) (body .spans))
-      spans-inside = ap (drop (c + 2)) spans-there ∙ drop-at (take (c + 2) ss) (spanNumbers (map (shift (at + 1)) (body .spans))) (c + 2) (length-take-le (c + 2) ss room)
+      spans-inside = ap (drop (c + 2)) spans-there ∙ drop-at (take (c + 2) ss) (spanNumbers (map (shift (at + 1)) (body .spans))) (c + 2) (length-take-le (c + 2) ss room-before)
 
       pub spans-small : (j : ℕ) → c + 2 ≤ j → j < c₂ → getD ss₂ j 0 ≤ e
       spans-small j p q =
           let z = ended in
           let y : c + 2 + (j - (c + 2)) ≡ j = omega arith in
           let w = within-number (at + 1) (length (body .cells)) (body .spans) (j - (c + 2)) (spans-within (within (slotAt src ns k (i + 1))) start) in
-          let n = length-take-le (c + 2) ss room in
+          let n = length-take-le (c + 2) ss room-before in
           let u : getD ss₂ j 0 ≡ getD (spanNumbers (map (shift (at + 1)) (body .spans))) (j - (c + 2)) 0 =
           sym (getD-take c₂ ss₂ j 0 q) ∙ ap₂ (λ (l : List ℕ) (x : ℕ). getD l x 0) spans-there (sym y)
           ∙ ap (λ (x : ℕ). getD (take (c + 2) ss ++ spanNumbers (map (shift (at + 1)) (body .spans))) (x + (j - (c + 2))) 0) (sym n)
           ∙ getD-append-add (take (c + 2) ss) (spanNumbers (map (shift (at + 1)) (body .spans))) (j - (c + 2)) 0 in
           omega arith
 
-      listing : (br : Bool) (to : ℕ) → br ≡ form → to ≡ at + length (wrapText d br (body .cells))
-          → at ∷ to ∷ spanNumbers (map (shift (at + 1 + cond br 1 0)) (body .spans)) ≡ spanNumbers (map (shift at) (markAt src ns k i before .wrote .spans))
-      unfolding markStep wrap spanNumbers
-      listing br to f t =
-          let o : at + 1 + cond br 1 0 ≡ at + length (opening br d) = let y = opening-long br d in omega arith in
-          rw (t, o, add-zero at, ← f, ← dl, shift-shift at (length (opening br d)) (body .spans))
-
-      last-is : (br : Bool) → br ≡ form → cond br 125 d ≡ markAt src ns k i before .state .before
-      unfolding markStep wrap
-      last-is br f = sym (wrap-last d br (body .cells)) ∙ rw (f, dl)
-
-      guard-is : (not form && is "{" before) ≡ markAt src ns k i before .state .guarded
-      unfolding markStep
-      guard-is = refl
-
       low : take c ss₂ ≡ take c ss
       low =
           let n = b .wrote .count in
-          let m = length-take-le (c + 2) ss room in
+          let m = length-take-le (c + 2) ss room-before in
           sym (take-take c c₂ ss₂ (omega arith)) ∙ ap (take c) spans-there ∙ take-append-le c (take (c + 2) ss) (spanNumbers (map (shift (at + 1)) (body .spans))) (omega arith) ∙ take-take c (c + 2) ss (omega arith)
 
-      pub mark-written : (out₃ org₃ : List ℕ) (to : ℕ) (ss₃ : List ℕ) (br : Bool) (nx before' : ℕ) (guarded' : Bool) → length (cells out₃ org₃) ≡ length v → length out₂ ≡ length v
-          → nx ≡ nextByte (next (within (beyond (slotAt src ns k (i + 1)))))
-          → Finished out₂ org₂ at e ss₂ c c₂ d before nx out₃ org₃ to ss₃ br → before' ≡ cond br 125 d → guarded' ≡ (not br && is "{" before) → before' ≤ 256
-          → MarkWritten src ns k i before v at ss c (cells out₃ org₃) to ss₃ c₂ item before' guarded'
-      mark-written out₃ org₃ to ss₃ br nx before' guarded' l₃ lo en fin eb eg sb =
-          let f = b .forward in
-          let z = ended in
-          let isform : br ≡ form = fin .form ∙ rw (first-there, last-there, en, dl) in
-          let text : Appends v at (cells out₃ org₃) to (wrapText d br (body .cells)) = record {
-            step = λ s h.
-                let n : at ≡ length s = h .end (holds-fits v at s h (omega arith)) in
-                subst (λ (t : List Cell). Holds (cells out₃ org₃) to (s ++ t)) (wrap-by br d (body .cells)) (fin .step (sign d) s (body .cells) (sym n) (both .step s h));
-            keeps = fin .keeps ∙ both .keeps;
-            grows = let g = fin .grows in omega arith;
-          } in
-          let same : markAt src ns k i before .wrote .cells ≡ wrapText d br (body .cells) = wrapped ∙ ap (λ (x : Bool). wrapText d x (body .cells)) (sym isform) in
-          record {
-            wrote = record {
-              text = rw same text;
-              count = counted;
-              spans = λ h.
-                  let ends = appends-end text h l₃ .0 in
-                  fin .spans (omega arith) ∙ rw (low, spans-inside, raised-shift (cond br 1 0) (at + 1) (body .spans))
-                  (ap (λ (l : List ℕ). take c ss ++ l) (listing br to isform ends));
-            };
-            state = λ h. (eb ∙ last-is br isform, eg ∙ ap (λ (x : Bool). not x && is "{" before) isform ∙ guard-is);
-            small = sb;
-            behind = b .behind;
-            up-to = b .up-to;
-            forward = omega arith;
-          }
+    listing : (br : Bool) (to : ℕ) → br ≡ form → to ≡ at + length (wrapText d br (body .cells))
+        → at ∷ to ∷ spanNumbers (map (shift (at + 1 + cond br 1 0)) (body .spans)) ≡ spanNumbers (map (shift at) (markAt src ns k i before .wrote .spans))
+    unfolding markStep wrap spanNumbers
+    listing br to f t =
+        let o : at + 1 + cond br 1 0 ≡ at + length (opening br d) = let y = opening-long br d in omega arith in
+        rw (t, o, add-zero at, ← f, ← dl, shift-shift at (length (opening br d)) (body .spans))
+
+    last-is : (br : Bool) → br ≡ form → cond br 125 d ≡ markAt src ns k i before .state .before
+    unfolding markStep wrap
+    last-is br f = sym (wrap-last d br (body .cells)) ∙ rw (f, dl)
+
+    guard-is : (not form && is "{" before) ≡ markAt src ns k i before .state .guarded
+    unfolding markStep
+    guard-is = refl
+
+    pub mark-written : (out₃ org₃ : List ℕ) (to : ℕ) (ss₃ : List ℕ) (br : Bool) (nx before' : ℕ) (guarded' : Bool) → length (cells out₃ org₃) ≡ length v → length out₂ ≡ length v → length ss₂ ≡ length ss → length ss₃ ≡ length ss₂
+        → nx ≡ nextByte (next (within (beyond (slotAt src ns k (i + 1)))))
+        → Finished out₂ org₂ at e ss₂ c c₂ d before nx out₃ org₃ to ss₃ br → before' ≡ cond br 125 d → guarded' ≡ (not br && is "{" before) → before' ≤ 256
+        → MarkWritten src ns k i before v at ss c (cells out₃ org₃) to ss₃ c₂ item before' guarded'
+    mark-written out₃ org₃ to ss₃ br nx before' guarded' l₃ lo ls ls₃ en fin eb eg sb =
+        let f = b .forward in
+        let z = ended in
+        let isform : br ≡ form = fin .form ∙ rw (first-there, last-there, en, dl) in
+        let text : Appends v at (cells out₃ org₃) to (wrapText d br (body .cells)) = record {
+          step = λ s h.
+              let n : at ≡ length s = h .end (holds-fits v at s h (omega arith)) in
+              subst (λ (t : List Cell). Holds (cells out₃ org₃) to (s ++ t)) (wrap-by br d (body .cells)) (fin .step (sign d) s (body .cells) (sym n) (both .step s h));
+          keeps = fin .keeps ∙ both .keeps;
+          grows = let g = fin .grows in omega arith;
+        } in
+        let same : markAt src ns k i before .wrote .cells ≡ wrapText d br (body .cells) = wrapped ∙ ap (λ (x : Bool). wrapText d x (body .cells)) (sym isform) in
+        record {
+          wrote = record {
+            text = rw same text;
+            count = counted;
+            spans = λ h r.
+                let ends = appends-end text h l₃ .0 in
+                let room : c₂ ≤ length ss₂ = omega arith in
+                fin .spans (omega arith) room ∙ rw (low room ls, spans-inside room ls, raised-shift (cond br 1 0) (at + 1) (body .spans))
+                (ap (λ (l : List ℕ). take c ss ++ l) (listing br to isform ends));
+          };
+          state = λ h. (eb ∙ last-is br isform, eg ∙ ap (λ (x : Bool). not x && is "{" before) isform ∙ guard-is);
+          small = sb;
+          behind = b .behind;
+          up-to = b .up-to;
+          forward = omega arith;
+        }
 
 -- ---- the same over pairs of slices
 
@@ -378,8 +382,8 @@ module _ (src ns : List ℕ) (k i before : ℕ) (out org out₁ org₁ out₂ or
       let l = cells-long out₂ org₂ (omega arith) in
       mark-full src ns k i before (cells out org) (cells out₁ org₁) out₂ org₂ at a₁ e d c c₂ item ss ss₂ dl (cells-kept out org out₁ org₁ lo₁ lg₁ wide) (cells-kept out org out₂ org₂ lo₂ lg₂ wide) (omega arith) a b (omega arith)
 
-  module _ (fit : e ≤ length out₂) (some : content (within (slotAt src ns k (i + 1))) ≡ true) (room : c + 2 ≤ length ss) where
-    pub mark-asks : (at + 1 < e) × (c + 2 ≤ c₂) × ((j : ℕ) → c + 2 ≤ j → j < c₂ → getD ss₂ j 0 ≤ e)
+  module _ (fit : e ≤ length out₂) (some : content (within (slotAt src ns k (i + 1))) ≡ true) (ls : length ss₂ ≡ length ss) where
+    pub mark-asks : (at + 1 < e) × (c + 2 ≤ c₂) × (c₂ ≤ length ss₂ → (j : ℕ) → c + 2 ≤ j → j < c₂ → getD ss₂ j 0 ≤ e)
     mark-asks =
         let l = cells-long out₂ org₂ (omega arith) in
         let l₁ = cells-kept out org out₁ org₁ lo₁ lg₁ wide in
@@ -388,21 +392,21 @@ module _ (src ns : List ℕ) (k i before : ℕ) (out org out₁ org₁ out₂ or
         let s = content-written (within (slotAt src ns k (i + 1))) start some in (
           mark-more src ns k i before (cells out org) (cells out₁ org₁) out₂ org₂ at a₁ e d c c₂ item ss ss₂ dl l₁ l₂ (omega arith) a b (omega arith) s,
           omega arith,
-          spans-small src ns k i before (cells out org) (cells out₁ org₁) out₂ org₂ at a₁ e d c c₂ item ss ss₂ dl l₁ l₂ (omega arith) a b (omega arith) s room,
+          λ r. spans-small src ns k i before (cells out org) (cells out₁ org₁) out₂ org₂ at a₁ e d c c₂ item ss ss₂ dl l₁ l₂ (omega arith) a b (omega arith) s r ls,
         )
 
-    pub mark-written-by : (out₃ org₃ : List ℕ) (to : ℕ) (ss₃ : List ℕ) (br : Bool) (nx before' : ℕ) (guarded' : Bool) → length out₃ ≡ length out → length org₃ ≡ length org
+    pub mark-written-by : (out₃ org₃ : List ℕ) (to : ℕ) (ss₃ : List ℕ) (br : Bool) (nx before' : ℕ) (guarded' : Bool) → length out₃ ≡ length out → length org₃ ≡ length org → length ss₃ ≡ length ss₂
         → nx ≡ nextByte (next (within (beyond (slotAt src ns k (i + 1)))))
         → Finished out₂ org₂ at e ss₂ c c₂ d before nx out₃ org₃ to ss₃ br → before' ≡ cond br 125 d → guarded' ≡ (not br && is "{" before) → before' ≤ 256
         → MarkWritten src ns k i before (cells out org) at ss c (cells out₃ org₃) to ss₃ c₂ item before' guarded'
-    mark-written-by out₃ org₃ to ss₃ br nx before' guarded' lo₃ lg₃ en fin eb eg sb =
+    mark-written-by out₃ org₃ to ss₃ br nx before' guarded' lo₃ lg₃ ls₃ en fin eb eg sb =
         let l = cells-long out₂ org₂ (omega arith) in
         let l₁ = cells-kept out org out₁ org₁ lo₁ lg₁ wide in
         let l₂ = cells-kept out org out₂ org₂ lo₂ lg₂ wide in
         let l₃ = cells-kept out org out₃ org₃ lo₃ lg₃ wide in
         let s = content-written (within (slotAt src ns k (i + 1))) start some in
-        mark-written src ns k i before (cells out org) (cells out₁ org₁) out₂ org₂ at a₁ e d c c₂ item ss ss₂ dl l₁ l₂ (omega arith) a b (omega arith) s room
-        out₃ org₃ to ss₃ br nx before' guarded' l₃ (omega arith) en fin eb eg sb
+        mark-written src ns k i before (cells out org) (cells out₁ org₁) out₂ org₂ at a₁ e d c c₂ item ss ss₂ dl l₁ l₂ (omega arith) a b (omega arith) s
+        out₃ org₃ to ss₃ br nx before' guarded' l₃ (omega arith) ls ls₃ en fin eb eg sb
 
 pub last-piece : (bs ns : List ℕ) (a e : ℕ) → a < e → e ≤ length bs → e ≤ length ns → getD bs (e - 1) 0 ≡ lastOr absent (part a e (cells bs ns))
 last-piece bs ns a e h k l =

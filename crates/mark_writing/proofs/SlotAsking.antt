@@ -25,7 +25,7 @@ fresh-ready src ns k j mask t h s f =
     let b = fresh-depth (kindsOf mask) (within (slotAt src ns k j)) f in
     record { table = t; up-to = h; deep = omega arith }
 
-module _ (src ns : List ℕ) (k i mask before : ℕ) (out org ss : List ℕ) (c : ℕ) (m : MarkReady src ns k i mask before out org ss c) where
+module _ (src ns : List ℕ) (k i mask before : ℕ) (out org : List ℕ) (c : ℕ) (m : MarkReady src ns k i mask before out org c) where
   marking : within (slotAt src ns k i) ≡ mark (kindNumbered (getD ns (2 * length src + 2 + i) 0 % 4)) [] (within (slotAt src ns k (i + 1))) (within (beyond (slotAt src ns k (i + 1))))
   marking = ap within (at-mark src ns k i (m .inside) (m .mark)) ∙ around-within (kindNumbered (getD ns (2 * length src + 2 + i) 0 % 4)) (slotAt src ns k (i + 1))
 
@@ -36,16 +36,16 @@ module _ (src ns : List ℕ) (k i mask before : ℕ) (out org ss : List ℕ) (c 
   unfolding marksIn
   marks-mark = ap marksIn marking
 
-  pub mark-room : c + 2 ≤ length ss
-  mark-room = let y = marks-mark in let r = m .slot .room in omega arith
+  pub mark-few : c + 2 ≤ 262144
+  mark-few = let y = marks-mark in let r = m .slot .few in omega arith
 
   fit : Fits mask (getD ns (2 * length src + 2 + i) 0 % 4)
   fit = fits mask (getD ns (2 * length src + 2 + i) 0 % 4) (m .slot .small) (omega arith)
 
-  pub mark-slot : (bit : ℕ) (out' org' : List ℕ) → bit ≡ bitOf (getD ns (2 * length src + 2 + i) 0 % 4) → length out' ≡ length out → length org' ≡ length org → Slot src ns k (i + 1) (bitOr mask bit) out' org' ss (c + 2)
+  pub mark-slot : (bit : ℕ) (out' org' : List ℕ) → bit ≡ bitOf (getD ns (2 * length src + 2 + i) 0 % 4) → length out' ≡ length out → length org' ≡ length org → Slot src ns k (i + 1) (bitOr mask bit) out' org' (c + 2)
   mark-slot bit out' org' e lo lg =
       let y = marks-mark in
-      let r = m .slot .room in
+      let r = m .slot .few in
       let q = m .inside in
       let sh = m .slot .short in
       let wd = m .slot .wide in
@@ -56,7 +56,7 @@ module _ (src ns : List ℕ) (k i mask before : ℕ) (out org ss : List ℕ) (c 
         fresh = rw (e, fit .opens) (fresh-mark .1);
         short = omega arith;
         wide = omega arith;
-        room = omega arith;
+        few = omega arith;
       }
 
   pub mark-falls : (bit : ℕ) → bit ≡ bitOf (getD ns (2 * length src + 2 + i) 0 % 4) → (ones (bitOr mask bit) ≡ suc (ones mask)) × (ones (bitOr mask bit) ≤ 4)

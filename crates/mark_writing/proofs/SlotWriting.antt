@@ -38,7 +38,7 @@ writes-if : {v v' : List Cell} {at at' : ℕ} {ss ss' : List ℕ} {c c' : ℕ} {
 writes-if {v} {v'} {at} {at'} {ss} {ss'} {c} {c'} {w} w' l n e r = record {
   text = appends-if (w' .cells) l (λ h. ap (λ (u : Written). u .cells) (e h)) (r .text);
   count = (let a = r .count in omega arith);
-  spans = λ h. (let g = r .text .grows in r .spans h ∙ ap (λ (u : Written). take c ss ++ spanNumbers (map (shift at) (u .spans))) (e (omega arith)));
+  spans = λ h q. (let g = r .text .grows in r .spans h q ∙ ap (λ (u : Written). take c ss ++ spanNumbers (map (shift at) (u .spans))) (e (omega arith)));
 }
 
 -- at item i of the slot that starts at `from`
@@ -46,7 +46,7 @@ pub record Drawing (src ns : List ℕ) (k from mask : ℕ) (v₀ : List Cell) (a
   pub forward : from ≤ i
   pub up-to : i ≤ k
   pub fresh : Fresh (kindsOf mask) (within (slotAt src ns k i))
-  pub room : c + 2 * marksIn (within (slotAt src ns k i)) ≤ length ss
+  pub few : c + 2 * marksIn (within (slotAt src ns k i)) ≤ 262144
   pub around-it : beyond (slotAt src ns k i) ≡ beyond (slotAt src ns k from)
   pub done : Written
   pub st : State
@@ -55,12 +55,12 @@ pub record Drawing (src ns : List ℕ) (k from mask : ℕ) (v₀ : List Cell) (a
   pub state : to ≤ length v → (before ≡ st .before) × (guarded ≡ st .guarded)
   pub small : before ≤ 256
 
-pub drawing-start : (src ns : List ℕ) (k from mask : ℕ) (out org ss : List ℕ) (v : List Cell) (at c : ℕ) → Slot src ns k from mask out org ss c → Drawing src ns k from mask v at ss c v at ss c from 256 false
+pub drawing-start : (src ns : List ℕ) (k from mask : ℕ) (out org ss : List ℕ) (v : List Cell) (at c : ℕ) → Slot src ns k from mask out org c → Drawing src ns k from mask v at ss c v at ss c from 256 false
 drawing-start src ns k from mask out org ss v at c s = record {
   forward = omega arith;
   up-to = s .up-to;
   fresh = s .fresh;
-  room = s .room;
+  few = s .few;
   around-it = refl;
   done = plain [];
   st = start;
@@ -97,12 +97,12 @@ module _ (src ns : List ℕ) (k from mask : ℕ) (v₀ : List Cell) (at₀ : ℕ
         → Fresh (kindsOf mask) (within (slotAt src ns k j)) → marksIn (within (slotAt src ns k j)) ≤ marksIn (within (slotAt src ns k i)) → Drawing src ns k from mask v₀ at₀ ss₀ c₀ v to ss c j before guarded
     on j h l w b f g =
         let fw = m .forward in
-        let rm = m .room in
+        let rm = m .few in
         record {
           forward = omega arith;
           up-to = l;
           fresh = f;
-          room = omega arith;
+          few = omega arith;
           around-it = sym b ∙ m .around-it;
           done = m .done;
           st = m .st;
@@ -147,7 +147,7 @@ module _ (src ns : List ℕ) (k from mask : ℕ) (v₀ : List Cell) (at₀ : ℕ
       drawn-text v' to' r before' lv lv₀ l n a eb sb =
           let s = some-text src ns k i t q l in
           let fw = m .forward in
-          let rm = m .room in
+          let rm = m .few in
           let y = marks-later in
           let step = textStep (spelled src ns k i q) (next later) (m .st) in
           let stepped : step ≡ record { wrote = plain (pieceText (m .st .guarded) (marked (next later)) (spelled src ns k i q)); state = record { before = lastOr absent (spelled src ns k i q); guarded = false } } = text-step (spelled src ns k i q) _ _ (next later) (m .st) s in
@@ -158,11 +158,11 @@ module _ (src ns : List ℕ) (k from mask : ℕ) (v₀ : List Cell) (at₀ : ℕ
             forward = omega arith;
             up-to = omega arith;
             fresh = fresh-later;
-            room = omega arith;
+            few = omega arith;
             around-it = sym texted-beyond ∙ m .around-it;
             done = m .done ▹ step .wrote;
             st = step .state;
-            wrote = writes-then lv₀ lv (m .wrote) wr;
+            wrote = writes-then lv₀ lv refl (m .wrote) wr;
             is = m .is ∙ ap (λ (u : Items). m .done ▹ write u (m .st)) texted ∙ sym (▹-assoc (m .done) (step .wrote) (write later (step .state)));
             state = λ h. rw stepped (eb, refl);
             small = sb;
@@ -206,7 +206,7 @@ module _ (src ns : List ℕ) (k from mask : ℕ) (v₀ : List Cell) (at₀ : ℕ
       drawn-mark v' to' ss' c' item before' guarded' lv lv₀ ls e few w =
           let fw = m .forward in
           let ff = w .forward in
-          let rm = m .room in
+          let rm = m .few in
           let y = marks-mark in
           let z : within (slotAt src ns k item) ≡ behind = ap within (w .behind) in
           let x = ap marksIn z in
@@ -220,11 +220,11 @@ module _ (src ns : List ℕ) (k from mask : ℕ) (v₀ : List Cell) (at₀ : ℕ
             forward = omega arith;
             up-to = w .up-to;
             fresh = subst (Fresh (kindsOf mask)) (sym z) (fresh-mark .2);
-            room = omega arith;
+            few = omega arith;
             around-it = ap beyond (w .behind) ∙ sym marking-beyond ∙ m .around-it;
             done = m .done ▹ step .wrote;
             st = step .state;
-            wrote = writes-then lv₀ lv (m .wrote) wr;
+            wrote = writes-then lv₀ lv ls (m .wrote) wr;
             is = m .is ∙ ap (λ (u : Items). m .done ▹ write u (m .st)) marking ∙ ap (λ (u : Written). m .done ▹ u) cond-true ∙ sym (▹-assoc (m .done) (step .wrote) (write behind (step .state))) ∙ ap (λ (u : Items). (m .done ▹ step .wrote) ▹ write u (step .state)) (sym z);
             state = λ h. (let g = wr .text .grows in subst (λ (u : Step). (before' ≡ u .state .before) × (guarded' ≡ u .state .guarded)) (there (omega arith)) (w .state h));
             small = w .small;

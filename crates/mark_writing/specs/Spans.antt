@@ -24,21 +24,21 @@ marksIn (text p t) = marksIn t
 marksIn (gone s t) = marksIn t
 marksIn (mark k s a t) = suc (marksIn a + marksIn t)
 
--- The spans are those of the text where it fits.
+-- The spans are those of the text where it fits and they do.
 pub record Writes (v : List Cell) (at : ℕ) (ss : List ℕ) (c : ℕ) (v' : List Cell) (at' : ℕ) (ss' : List ℕ) (c' : ℕ) (w : Written) : Type 0 where
   pub text : Appends v at v' at' (w .cells)
   pub count : c' ≡ c + 2 * length (w .spans)
-  pub spans : at' ≤ length v' → take c' ss' ≡ take c ss ++ spanNumbers (map (shift at) (w .spans))
+  pub spans : at' ≤ length v' → c' ≤ length ss' → take c' ss' ≡ take c ss ++ spanNumbers (map (shift at) (w .spans))
 
--- what writing the slot that starts at item `from` is asked: the kinds of a mask are open in it, and there is room for the spans of its marks
-pub record Slot (src ns : List ℕ) (k from mask : ℕ) (out origins ss : List ℕ) (c : ℕ) : Type 0 where
+-- what writing the slot that starts at item `from` is asked: the kinds of a mask are open in it, and the spans of its marks can be counted
+pub record Slot (src ns : List ℕ) (k from mask : ℕ) (out origins : List ℕ) (c : ℕ) : Type 0 where
   pub table : Held src ns k
   pub up-to : from ≤ k
   pub small : mask < 16
   pub fresh : Fresh (kindsOf mask) (within (slotAt src ns k from))
   pub short : length out ≤ 16777216
   pub wide : length out ≤ length origins
-  pub room : c + 2 * marksIn (within (slotAt src ns k from)) ≤ length ss
+  pub few : c + 2 * marksIn (within (slotAt src ns k from)) ≤ 262144
 
 -- a mark that starts at place p with its opening delimiter, of which the body ends at `at` and the spans inside it at e, has been finished
 pub record Finished (out origins : List ℕ) (p at : ℕ) (ss : List ℕ) (c e d before next : ℕ) (out' origins' : List ℕ) (to : ℕ) (ss' : List ℕ) (braces : Bool) : Type 0 where
@@ -46,11 +46,11 @@ pub record Finished (out origins : List ℕ) (p at : ℕ) (ss : List ℕ) (c e d
   pub step : (o : Cell) (s body : List Cell) → length s ≡ p → Holds (cells out origins) at (s ++ (o ∷ body)) → Holds (cells out' origins') to (s ++ behindBrace braces d (o ∷ escapeLast (is "{") true body))
   pub keeps : take p (cells out' origins') ≡ take p (cells out origins)
   pub grows : at ≤ to
-  pub spans : to ≤ length out → take e ss' ≡ take c ss ++ (p ∷ to ∷ raised (cond braces 1 0) (drop (c + 2) (take e ss)))
+  pub spans : to ≤ length out → e ≤ length ss → take e ss' ≡ take c ss ++ (p ∷ to ∷ raised (cond braces 1 0) (drop (c + 2) (take e ss)))
 
 -- what writing the mark that starts at item i is asked
-pub record MarkReady (src ns : List ℕ) (k i mask before : ℕ) (out origins ss : List ℕ) (c : ℕ) : Type 0 where
-  pub slot : Slot src ns k i mask out origins ss c
+pub record MarkReady (src ns : List ℕ) (k i mask before : ℕ) (out origins : List ℕ) (c : ℕ) : Type 0 where
+  pub slot : Slot src ns k i mask out origins c
   pub inside : i < k
   pub mark : 4 ≤ getD ns (2 * length src + 2 + i) 0
   pub some : content (within (slotAt src ns k (i + 1))) ≡ true

@@ -93,14 +93,16 @@ fn raise_spans(spans: &mut [u32], a: usize, e: usize, by: u32)
     }
 }
 
-// Lists a mark's span before those inside it, which stand from c + 2 up to e and are raised.
+// Lists a mark's span before those inside it, which stand from c + 2 up to e and are raised; nothing where the spans end before e.
 fn put_span(spans: &mut [u32], c: usize, e: usize, start: usize, end: usize, by: u32)
-    requires { ⌜ (((c + 2 ≤ e) × (e ≤ length (now spans))) × ((start ≤ 16777216) × (end ≤ 16777216))) × ((by ≤ 1) × ((i : ℕ) → c + 2 ≤ i → i < e → getD (now spans) i 0 ≤ 16777216)) ⌝ }
-    ensures { λ _. ⌜ take e (now (spans .exit)) ≡ take c (now (spans .entry)) ++ (start ∷ end ∷ raised by (drop (c + 2) (take e (now (spans .entry))))) ⌝ }
+    requires { ⌜ ((c + 2 ≤ e) × ((start ≤ 16777216) × (end ≤ 16777216))) × ((by ≤ 1) × (e ≤ length (now spans) → (i : ℕ) → c + 2 ≤ i → i < e → getD (now spans) i 0 ≤ 16777216)) ⌝ }
+    ensures { λ _. ⌜ (e ≤ length (now (spans .entry)) → take e (now (spans .exit)) ≡ take c (now (spans .entry)) ++ (start ∷ end ∷ raised by (drop (c + 2) (take e (now (spans .entry)))))) ⌝ }
 {
-    raise_spans(spans, c + 2, e, by);
-    spans[c] = start as u32;
-    spans[c + 1] = end as u32;
+    if e <= spans.len() {
+        raise_spans(spans, c + 2, e, by);
+        spans[c] = start as u32;
+        spans[c + 1] = end as u32;
+    }
 }
 
 fn one_if(yes: bool) -> u32
@@ -118,7 +120,7 @@ pub struct Closed {
     pub braces: bool,
 }
 
-// Finishes a mark that starts at place p: its body ends at `at`, the spans inside it at e.
+// Finishes a mark that starts at place p: its body ends at `at`, the spans inside it at e. Spans that are lent too short for these are not written.
 pub fn finish_mark(
     buf: &mut [u8],
     nums: &mut [u32],
@@ -131,7 +133,7 @@ pub fn finish_mark(
     before: usize,
     next: usize,
 ) -> Closed
-    requires { ⌜ (((p + 1 < at .0) × (at .0 ≤ length (now buf))) × ((length (now buf) ≤ length (now nums)) × (length (now buf) ≤ 16777216))) × (((c + 2 ≤ e) × (e ≤ length (now spans))) × (((before ≤ 256) × (next ≤ 256)) × ((i : ℕ) → c + 2 ≤ i → i < e → getD (now spans) i 0 ≤ 16777216))) ⌝ }
+    requires { ⌜ (((p + 1 < at .0) × (at .0 ≤ length (now buf))) × ((length (now buf) ≤ length (now nums)) × (length (now buf) ≤ 16777216))) × ((c + 2 ≤ e) × (((before ≤ 256) × (next ≤ 256)) × (e ≤ length (now spans) → (i : ℕ) → c + 2 ≤ i → i < e → getD (now spans) i 0 ≤ 16777216))) ⌝ }
     ensures { λ r. ⌜ Finished (now (buf .entry)) (now (nums .entry)) p (at .0) (now (spans .entry)) c e d before next (now (buf .exit)) (now (nums .exit)) (r .to) (now (spans .exit)) (r .braces) ⌝ }
 {
     let braces = takes_braces(&buf[..], p + 1, at.0, d, before, next);

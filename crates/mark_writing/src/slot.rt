@@ -125,7 +125,7 @@ pub fn write_mark(
     spans: &mut [u32],
     count: usize,
 ) -> Drawn
-    requires { ⌜ MarkReady (now text) (now nums) k i mask before (now out) (now origins) (now spans) count ⌝ }
+    requires { ⌜ MarkReady (now text) (now nums) k i mask before (now out) (now origins) count ⌝ }
     ensures { λ r. ⌜ MarkWritten (now (text .entry)) (now (nums .entry)) k i before (cells (now (out .entry)) (now (origins .entry))) (at .0) (now (spans .entry)) count (cells (now (out .exit)) (now (origins .exit))) (r .to) (now (spans .exit)) (r .count) (r .item) (r .before) (r .guarded) ⌝ }
 {
     let n = text.len();
@@ -193,7 +193,7 @@ pub fn write_slot(
     spans: &mut [u32],
     count: usize,
 ) -> Went
-    requires { ⌜ Slot (now text) (now nums) k from mask (now out) (now origins) (now spans) count ⌝ }
+    requires { ⌜ Slot (now text) (now nums) k from mask (now out) (now origins) count ⌝ }
     ensures { λ r. ⌜ SlotWritten (now (text .entry)) (now (nums .entry)) k from (cells (now (out .entry)) (now (origins .entry))) (at .0) (now (spans .entry)) count (cells (now (out .exit)) (now (origins .exit))) (r .to) (now (spans .exit)) (r .count) (r .item) ⌝ }
 {
     let n = text.len();

@@ -7,13 +7,16 @@ use native.Mathlib.Omega.{arith}
 use lib.ListN.{length, take}
 use lib.Seq.{take-all}
 use Rattle.text.specs.Cells.{Cell, cell, cells, bytes, cellsOf}
+use Rattle.text.specs.Writes.{Holds}
 use Rattle.text.proofs.Writing.{cells-short}
 use Rattle.text.proofs.Clearing.{cells-bytes}
+use Rattle.text.proofs.Copying.{length-cellsOf}
 use Rattle.mark_tags.specs.Marks as Marks
 use Rattle.mark_tags.specs.Marks.{Items, end, text, gone, mark, Written, start, write, marks, merge, no-kinds, items}
 use Rattle.mark_tags.specs.Flat.{view, within, flatMarks, flats, flatAt, slotsAt, held, slotAt, kindsOf, Fresh, Held, Itemed}
 use Rattle.mark_writing.specs.Spans.{marksIn, Writes, Slot, SlotWritten}
 use Rattle.mark_tags.proofs.Pieces.{cells-long}
+use Rattle.marks.proofs.Counting.{marks-third}
 use Rattle.marks.proofs.Flattening.{bare, view-marks, fresh-view, written-view}
 
 marks-bare : (t : Items) → marksIn (bare t) ≡ marksIn t
@@ -40,10 +43,12 @@ module _ (src ns₁ ns₂ : List ℕ) (k : ℕ) (small : length src ≤ 262144) 
   unfolding slotsAt held
   slot = rw (sub-zero k) (ap view (t .items (cells src ns₂) (bytes-cells src ns₂ (omega arith)))) ∙ ap (λ (x : List Cell). view (flatMarks x)) source
 
-  pub pass-slot : (out org ss : List ℕ) → length out ≤ 16777216 → length out ≤ length org → 2 * marksIn (merge no-kinds (items (cellsOf src))) ≤ length ss → Slot src ns₂ k 0 0 out org ss 0
+  pub pass-slot : (out org : List ℕ) → length out ≤ 16777216 → length out ≤ length org → Slot src ns₂ k 0 0 out org 0
   unfolding kindsOf
-  pass-slot out org ss a b c =
+  pass-slot out org a b =
       let m : marksIn (within (slotAt src ns₂ k 0)) ≡ marksIn (merge no-kinds (items (cellsOf src))) = rw (slot, view-marks (cellsOf src)) (marks-bare (merge no-kinds (items (cellsOf src)))) in
+      let third = marks-third (cellsOf src) in
+      let long = length-cellsOf src in
       record {
         table = record { small = small; room = room; few = t .few; bounded = t .bounded };
         up-to = omega arith;
@@ -51,9 +56,13 @@ module _ (src ns₁ ns₂ : List ℕ) (k : ℕ) (small : length src ≤ 262144) 
         fresh = rw slot (fresh-view (cellsOf src));
         short = a;
         wide = b;
-        room = omega arith;
+        few = omega arith;
       }
 
   pub pass-writes : (v : List Cell) (ss : List ℕ) (v' : List Cell) (to : ℕ) (ss' : List ℕ) (c item : ℕ) → SlotWritten src ns₂ k 0 v 0 ss 0 v' to ss' c item → Writes v 0 ss 0 v' to ss' c (marks (cellsOf src))
   pass-writes v ss v' to ss' c item w =
       subst (Writes v 0 ss 0 v' to ss' c) (ap (λ (o : Marks.Slots). write (within o) start) slot ∙ written-view (cellsOf src)) (w .wrote)
+
+-- what a text that begins at place 0 holds
+pub pass-held : {v v' : List Cell} {ss ss' : List ℕ} {to c : ℕ} {w : Written} → Writes v 0 ss 0 v' to ss' c w → Holds v' to (w .cells)
+pass-held {v} w = w .text .step [] (record { end = λ h. refl; text = λ h. refl; full = λ h. absurd (omega arith) })

@@ -41,7 +41,7 @@ put-span-requires c κs =
     let b = one-small (c .before .before .before .before .before .before .before .before .before .before .before .before .before .before .before .before .before .takes-braces .result) (c .one-if .result) (c .one-if .ensures) in
     let k₁ = c .before .before .before .before .before .before .before .before .before .before .before .before .before .before .escape-brace .kept in
     let k₂ = c .before .before .before .before .before .before .before .close-mark .kept in
-    (((omega arith, omega arith), (omega arith, omega arith)), (b, p .1 .1 .1))
+    ((omega arith, (omega arith, omega arith)), (b, p .1 .1 .1))
 
 same-length : tie.Need-same-length
 same-length c = search needs
@@ -62,7 +62,7 @@ returns c =
       step = closes-step (c .before .before .before .before .before .before .before .before .before .before .before .before .before .before .before .before .before .before .before .before .takes-braces .result) (a .d) (c .before .before .before .before .before .before .before .before .before .before .before .before .before .before .before .before .before .escape-brace .ensures) (c .before .before .before .before .before .before .before .before .before .before .close-mark .ensures);
       keeps = closes-keeps (c .before .before .before .before .before .before .before .before .before .before .before .before .before .before .before .before .before .before .before .before .takes-braces .result) (a .d) (c .before .before .before .before .before .before .before .before .before .before .before .before .before .before .before .before .before .escape-brace .ensures) (c .before .before .before .before .before .before .before .before .before .before .close-mark .ensures);
       grows = omega arith;
-      spans = λ h. c .before .before .put-span .ensures ∙ ap (λ (by : ℕ). take (a .c) (a .spans .now) ++ (a .p ∷ c .before .before .before .before .before .before .before .before .before .before .close-mark .result .0 ∷ raised by (drop (a .c + 2) (take (a .e) (a .spans .now))))) (c .before .before .before .one-if .ensures);
+      spans = λ h r. c .before .before .put-span .ensures r ∙ ap (λ (by : ℕ). take (a .c) (a .spans .now) ++ (a .p ∷ c .before .before .before .before .before .before .before .before .before .before .close-mark .result .0 ∷ raised by (drop (a .c + 2) (take (a .e) (a .spans .now))))) (c .before .before .before .one-if .ensures);
     }
 
 same-length-4 : tie.Need-same-length-4
@@ -84,7 +84,7 @@ returns-2 c =
       step = closes-step (c .before .before .before .before .before .before .before .before .before .before .before .before .before .before .before .takes-braces .result) (a .d) (c .before .before .before .before .before .before .before .before .before .before .before .before .escape-brace .ensures) (c .before .before .before .before .before .close-mark .ensures);
       keeps = closes-keeps (c .before .before .before .before .before .before .before .before .before .before .before .before .before .before .before .takes-braces .result) (a .d) (c .before .before .before .before .before .before .before .before .before .before .before .before .escape-brace .ensures) (c .before .before .before .before .before .close-mark .ensures);
       grows = omega arith;
-      spans = λ h. absurd (omega arith);
+      spans = λ h r. absurd (omega arith);
     }
 
 pub finish-mark-spec : {M : Type 1} → statement M

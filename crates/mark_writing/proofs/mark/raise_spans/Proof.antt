@@ -5,7 +5,7 @@ use Prim.Native.Nat.{ℕ, suc, _+_, _-_, _≤_, _<_}
 use mathlib.Core.List.{List, [], _∷_, _++_}
 use lib.ListN.{length, getD}
 use lib.ListN.{take, drop}
-use Rattle.mark_writing.proofs.Listing.{Raising, raising-start, raising-turn}
+use Rattle.mark_writing.proofs.Listing.{Mapping, mapping-start, mapping-turn}
 use Rattle.mark_writing.specs.Spans.{raised}
 use Rattle.mark_writing.proofs.mark.raise_spans.Statement.{statement}
 use Rattle.mark_writing.proofs.mark.raise_spans.Tie as tie
@@ -13,13 +13,13 @@ use Rattle.mark_writing.proofs.mark.raise_spans.Reads as reads
 use Rattle.mark_writing.proofs.mark.raise_spans.Lts as lts
 
 abbrev Inv-loop : tie.InvT-loop
-Inv-loop spans₀ a e by i₀ spans i = (i ≤ e) × (length spans ≡ length spans₀) × Raising by spans₀ spans a i
+Inv-loop spans₀ a e by i₀ spans i = (i ≤ e) × (length spans ≡ length spans₀) × Mapping (λ x. x + by) spans₀ spans a i
 
 abbrev μ-loop : tie.MeasureT-loop
 μ-loop spans₀ a e by i₀ spans i = e - i
 
 loop-holds : tie.Need-loop-holds Inv-loop μ-loop
-loop-holds c = (search needs, refl, raising-start _ _ _)
+loop-holds c = (search needs, refl, mapping-start _ _ _)
 
 mul-spans : tie.Need-mul-spans Inv-loop μ-loop
 mul-spans c = search needs
@@ -45,7 +45,7 @@ loop-less c = search needs
 loop-again : tie.Need-loop-again Inv-loop μ-loop
 loop-again c =
     let l = c .before .before .loop in
-    (search needs, search needs, raising-turn _ _ (l .spans) _ (l .i) (omega arith) (l .inv .1) (l .inv .2))
+    (search needs, search needs, mapping-turn _ _ (l .spans) _ (l .i) (omega arith) (l .inv .1) (l .inv .2))
 
 same-length : tie.Need-same-length Inv-loop μ-loop
 same-length c = search needs

@@ -19,7 +19,7 @@ use Rattle.mark_writing.proofs.Slotting.{bounds}
 use Rattle.mark_writing.proofs.Looking.{here-start, mark-deep, mark-ready}
 use Rattle.mark_writing.proofs.SlotWriting.{Drawing, drawing-start, drawn-end, drawn-leave, drawn-gone, drawn-nothing, drawn-text, drawn-empty, drawn-mark, fresh-later}
 use Rattle.mark_writing.proofs.MarkWriting.{spans-few, mark-full-by, mark-asks, mark-written-by, cells-kept}
-use Rattle.mark_writing.proofs.SlotAsking.{ones-few, fresh-ready, mark-room, mark-slot, mark-falls, behind-ready, next-is, next-small, last-small}
+use Rattle.mark_writing.proofs.SlotAsking.{ones-few, fresh-ready, mark-few, mark-slot, mark-falls, behind-ready, next-is, next-small, last-small}
 use Rattle.mark_tags.specs.Flat.{boundAt}
 use Rattle.text.specs.Cells.{cells}
 use Rattle.mark_writing.proofs.slot.write_mark.Reads as write-mark
@@ -260,7 +260,7 @@ write-mark-add-write-slot-2 : (t : ℕ) → write-mark-lts.Need-add-write-slot-2
   last-of-reads.Asked,
   last-of-reads.Learnt,
 ) (write-mark-at t) write-mark.Post
-write-mark-add-write-slot-2 t c = let r = mark-room (c .before .before .before .before .before .before .before .before .before .before .before .before .before .before .before .before .before .before .args .text .now) (c .before .before .before .before .before .before .before .before .before .before .before .before .before .before .before .before .before .before .args .nums .now) (c .before .before .before .before .before .before .before .before .before .before .before .before .before .before .before .before .before .before .args .k) (c .before .before .before .before .before .before .before .before .before .before .before .before .before .before .before .before .before .before .args .i) (c .before .before .before .before .before .before .before .before .before .before .before .before .before .before .before .before .before .before .args .mask) (c .before .before .before .before .before .before .before .before .before .before .before .before .before .before .before .before .before .before .args .before) (c .before .before .before .before .before .before .before .before .before .before .before .before .before .before .before .before .before .before .args .out .now) (c .before .before .before .before .before .before .before .before .before .before .before .before .before .before .before .before .before .before .args .origins .now) (c .before .before .before .before .before .before .before .before .before .before .before .before .before .before .before .before .before .before .args .spans .now) (c .before .before .before .before .before .before .before .before .before .before .before .before .before .before .before .before .before .before .args .count) (c .before .before .before .before .before .before .before .before .before .before .before .before .before .before .before .before .before .before .pre .1) in omega arith
+write-mark-add-write-slot-2 t c = let s = c .before .before .before .before .before .before .before .before .before .before .before .before .before .before .before .before .before .before in let r = mark-few (s .args .text .now) (s .args .nums .now) (s .args .k) (s .args .i) (s .args .mask) (s .args .before) (s .args .out .now) (s .args .origins .now) (s .args .count) (s .pre .1) in omega arith
 
 write-mark-write-slot-requires : (t : ℕ) → write-mark-lts.Need-write-slot-requires (
   delimiter-of-reads.Asked,
@@ -281,8 +281,9 @@ write-mark-write-slot-requires : (t : ℕ) → write-mark-lts.Need-write-slot-re
   last-of-reads.Learnt,
 ) (write-mark-at t) write-mark.Post
 write-mark-write-slot-requires t c κs =
-    let f = mark-falls (c .before .before .before .before .before .before .before .before .before .before .before .before .before .before .before .before .before .before .args .text .now) (c .before .before .before .before .before .before .before .before .before .before .before .before .before .before .before .before .before .before .args .nums .now) (c .before .before .before .before .before .before .before .before .before .before .before .before .before .before .before .before .before .before .args .k) (c .before .before .before .before .before .before .before .before .before .before .before .before .before .before .before .before .before .before .args .i) (c .before .before .before .before .before .before .before .before .before .before .before .before .before .before .before .before .before .before .args .mask) (c .before .before .before .before .before .before .before .before .before .before .before .before .before .before .before .before .before .before .args .before) (c .before .before .before .before .before .before .before .before .before .before .before .before .before .before .before .before .before .before .args .out .now) (c .before .before .before .before .before .before .before .before .before .before .before .before .before .before .before .before .before .before .args .origins .now) (c .before .before .before .before .before .before .before .before .before .before .before .before .before .before .before .before .before .before .args .spans .now) (c .before .before .before .before .before .before .before .before .before .before .before .before .before .before .before .before .before .before .args .count) (c .before .before .before .before .before .before .before .before .before .before .before .before .before .before .before .before .before .before .pre .1) _ (c .before .before .before .bit-of .ensures) in
-    (omega arith, mark-slot (c .before .before .before .before .before .before .before .before .before .before .before .before .before .before .before .before .before .before .args .text .now) (c .before .before .before .before .before .before .before .before .before .before .before .before .before .before .before .before .before .before .args .nums .now) (c .before .before .before .before .before .before .before .before .before .before .before .before .before .before .before .before .before .before .args .k) (c .before .before .before .before .before .before .before .before .before .before .before .before .before .before .before .before .before .before .args .i) (c .before .before .before .before .before .before .before .before .before .before .before .before .before .before .before .before .before .before .args .mask) (c .before .before .before .before .before .before .before .before .before .before .before .before .before .before .before .before .before .before .args .before) (c .before .before .before .before .before .before .before .before .before .before .before .before .before .before .before .before .before .before .args .out .now) (c .before .before .before .before .before .before .before .before .before .before .before .before .before .before .before .before .before .before .args .origins .now) (c .before .before .before .before .before .before .before .before .before .before .before .before .before .before .before .before .before .before .args .spans .now) (c .before .before .before .before .before .before .before .before .before .before .before .before .before .before .before .before .before .before .args .count) (c .before .before .before .before .before .before .before .before .before .before .before .before .before .before .before .before .before .before .pre .1) _ _ _ (c .before .before .before .bit-of .ensures) (c .before .before .before .before .before .before .before .before .put-sign .kept .0) (c .before .before .before .before .before .before .before .before .put-sign .kept .1 .0))
+    let s = c .before .before .before .before .before .before .before .before .before .before .before .before .before .before .before .before .before .before in
+    let f = mark-falls (s .args .text .now) (s .args .nums .now) (s .args .k) (s .args .i) (s .args .mask) (s .args .before) (s .args .out .now) (s .args .origins .now) (s .args .count) (s .pre .1) _ (c .before .before .before .bit-of .ensures) in
+    (omega arith, mark-slot (s .args .text .now) (s .args .nums .now) (s .args .k) (s .args .i) (s .args .mask) (s .args .before) (s .args .out .now) (s .args .origins .now) (s .args .count) (s .pre .1) _ _ _ (c .before .before .before .bit-of .ensures) (c .before .before .before .before .before .before .before .before .put-sign .kept .0) (c .before .before .before .before .before .before .before .before .put-sign .kept .1 .0))
 
 write-mark-same-length : (t : ℕ) → write-mark-lts.Need-same-length (
   delimiter-of-reads.Asked,
@@ -422,7 +423,7 @@ write-mark-next-of-requires : (t : ℕ) → write-mark-lts.Need-next-of-requires
   last-of-reads.Asked,
   last-of-reads.Learnt,
 ) (write-mark-at t) write-mark.Post
-write-mark-next-of-requires t c κs = behind-ready (c .before .before .before .before .before .before .before .before .before .before .before .before .before .before .before .before .before .before .before .before .before .before .before .before .before .before .args .text .now) (c .before .before .before .before .before .before .before .before .before .before .before .before .before .before .before .before .before .before .before .before .before .before .before .before .before .before .args .nums .now) (c .before .before .before .before .before .before .before .before .before .before .before .before .before .before .before .before .before .before .before .before .before .before .before .before .before .before .args .k) (c .before .before .before .before .before .before .before .before .before .before .before .before .before .before .before .before .before .before .before .before .before .before .before .before .before .before .args .i) (c .before .before .before .before .before .before .before .before .before .before .before .before .before .before .before .before .before .before .before .before .before .before .before .before .before .before .args .mask) (c .before .before .before .before .before .before .before .before .before .before .before .before .before .before .before .before .before .before .before .before .before .before .before .before .before .before .args .before) (c .before .before .before .before .before .before .before .before .before .before .before .before .before .before .before .before .before .before .before .before .before .before .before .before .before .before .args .out .now) (c .before .before .before .before .before .before .before .before .before .before .before .before .before .before .before .before .before .before .before .before .before .before .before .before .before .before .args .origins .now) (c .before .before .before .before .before .before .before .before .before .before .before .before .before .before .before .before .before .before .before .before .before .before .before .before .before .before .args .spans .now) (c .before .before .before .before .before .before .before .before .before .before .before .before .before .before .before .before .before .before .before .before .before .before .before .before .before .before .args .count) (c .before .before .before .before .before .before .before .before .before .before .before .before .before .before .before .before .before .before .before .before .before .before .before .before .before .before .pre .1) _ (c .before .before .before .before .before .before .before .write-slot .ensures .up-to) (c .before .before .before .before .before .before .before .write-slot .ensures .behind)
+write-mark-next-of-requires t c κs = let s = c .before .before .before .before .before .before .before .before .before .before .before .before .before .before .before .before .before .before .before .before .before .before .before .before .before .before in behind-ready (s .args .text .now) (s .args .nums .now) (s .args .k) (s .args .i) (s .args .mask) (s .args .before) (s .args .out .now) (s .args .origins .now) (s .args .count) (s .pre .1) _ (c .before .before .before .before .before .before .before .write-slot .ensures .up-to) (c .before .before .before .before .before .before .before .write-slot .ensures .behind)
 
 write-mark-next-byte-requires : (t : ℕ) → write-mark-lts.Need-next-byte-requires (
   delimiter-of-reads.Asked,
@@ -463,21 +464,22 @@ write-mark-finish-mark-requires : (t : ℕ) → write-mark-lts.Need-finish-mark-
   last-of-reads.Learnt,
 ) (write-mark-at t) write-mark.Post
 write-mark-finish-mark-requires t c κs =
-    let ask = mark-asks (c .before .before .before .before .before .before .before .before .before .before .before .before .before .before .before .before .before .before .before .before .before .before .before .before .before .before .before .before .before .before .before .args .text .now) (c .before .before .before .before .before .before .before .before .before .before .before .before .before .before .before .before .before .before .before .before .before .before .before .before .before .before .before .before .before .before .before .args .nums .now) (c .before .before .before .before .before .before .before .before .before .before .before .before .before .before .before .before .before .before .before .before .before .before .before .before .before .before .before .before .before .before .before .args .k) (c .before .before .before .before .before .before .before .before .before .before .before .before .before .before .before .before .before .before .before .before .before .before .before .before .before .before .before .before .before .before .before .args .i) (c .before .before .before .before .before .before .before .before .before .before .before .before .before .before .before .before .before .before .before .before .before .before .before .before .before .before .before .before .before .before .before .args .before) _ _ _ _ _ _ _ _ _ _ _ _ _ _ _ (c .before .before .before .before .before .before .before .before .before .before .before .before .before .before .before .before .before .before .before .before .before .before .before .before .delimiter-of .ensures) (c .before .before .before .before .before .before .before .before .before .before .before .before .before .before .before .before .before .before .before .before .before .put-sign .kept .0) (c .before .before .before .before .before .before .before .before .before .before .before .before .before .before .before .before .before .before .before .before .before .put-sign .kept .1 .0) (c .before .before .before .before .before .before .before .before .before .before .before .before .write-slot .kept .1 .1 .1 .1 .1 .0 ∙ c .before .before .before .before .before .before .before .before .before .before .before .before .before .before .before .before .before .before .before .before .before .put-sign .kept .0) (c .before .before .before .before .before .before .before .before .before .before .before .before .write-slot .kept .1 .1 .1 .1 .1 .1 .0 ∙ c .before .before .before .before .before .before .before .before .before .before .before .before .before .before .before .before .before .before .before .before .before .put-sign .kept .1 .0) (c .before .before .before .before .before .before .before .before .before .before .before .before .before .before .before .before .before .before .before .before .before .before .before .before .before .before .before .before .before .before .before .pre .1 .slot .wide) (c .before .before .before .before .before .before .before .before .before .before .before .before .before .before .before .before .before .before .before .before .before .put-sign .ensures) (c .before .before .before .before .before .before .before .before .before .before .before .before .write-slot .ensures) (c .before .before .before .before .before .if1 .left) (c .before .before .before .before .before .before .before .before .before .before .before .before .before .before .before .before .before .before .before .before .before .before .before .before .before .before .before .before .before .before .before .pre .1 .some) (mark-room (c .before .before .before .before .before .before .before .before .before .before .before .before .before .before .before .before .before .before .before .before .before .before .before .before .before .before .before .before .before .before .before .args .text .now) (c .before .before .before .before .before .before .before .before .before .before .before .before .before .before .before .before .before .before .before .before .before .before .before .before .before .before .before .before .before .before .before .args .nums .now) (c .before .before .before .before .before .before .before .before .before .before .before .before .before .before .before .before .before .before .before .before .before .before .before .before .before .before .before .before .before .before .before .args .k) (c .before .before .before .before .before .before .before .before .before .before .before .before .before .before .before .before .before .before .before .before .before .before .before .before .before .before .before .before .before .before .before .args .i) (c .before .before .before .before .before .before .before .before .before .before .before .before .before .before .before .before .before .before .before .before .before .before .before .before .before .before .before .before .before .before .before .args .mask) (c .before .before .before .before .before .before .before .before .before .before .before .before .before .before .before .before .before .before .before .before .before .before .before .before .before .before .before .before .before .before .before .args .before) (c .before .before .before .before .before .before .before .before .before .before .before .before .before .before .before .before .before .before .before .before .before .before .before .before .before .before .before .before .before .before .before .args .out .now) (c .before .before .before .before .before .before .before .before .before .before .before .before .before .before .before .before .before .before .before .before .before .before .before .before .before .before .before .before .before .before .before .args .origins .now) (c .before .before .before .before .before .before .before .before .before .before .before .before .before .before .before .before .before .before .before .before .before .before .before .before .before .before .before .before .before .before .before .args .spans .now) (c .before .before .before .before .before .before .before .before .before .before .before .before .before .before .before .before .before .before .before .before .before .before .before .before .before .before .before .before .before .before .before .args .count) (c .before .before .before .before .before .before .before .before .before .before .before .before .before .before .before .before .before .before .before .before .before .before .before .before .before .before .before .before .before .before .before .pre .1)) in
-    let sh = c .before .before .before .before .before .before .before .before .before .before .before .before .before .before .before .before .before .before .before .before .before .before .before .before .before .before .before .before .before .before .before .pre .1 .slot .short in
-    let wd = c .before .before .before .before .before .before .before .before .before .before .before .before .before .before .before .before .before .before .before .before .before .before .before .before .before .before .before .before .before .before .before .pre .1 .slot .wide in
-    let bf = c .before .before .before .before .before .before .before .before .before .before .before .before .before .before .before .before .before .before .before .before .before .before .before .before .before .before .before .before .before .before .before .pre .1 .small in
-    let nx = next-small _ _ _ (c .before .before .before .before .next-of .ensures) (c .next-byte .ensures) in
-    let ko₁ = c .before .before .before .before .before .before .before .before .before .before .before .before .before .before .before .before .before .before .before .before .before .put-sign .kept .0 in
-    let kg₁ = c .before .before .before .before .before .before .before .before .before .before .before .before .before .before .before .before .before .before .before .before .before .put-sign .kept .1 .0 in
-    let ko₂ = c .before .before .before .before .before .before .before .before .before .before .before .before .write-slot .kept .1 .1 .1 .1 .1 .0 in
-    let kg₂ = c .before .before .before .before .before .before .before .before .before .before .before .before .write-slot .kept .1 .1 .1 .1 .1 .1 .0 in
-    let ks₂ = c .before .before .before .before .before .before .before .before .before .before .before .before .write-slot .kept .1 .1 .1 .1 .1 .1 .1 .1 .0 in
+    let s = c .before .before .before .before .before .before .before .before .before .before .before .before .before .before .before .before .before .before .before .before .before .before .before .before .before .before .before .before .before .before .before in
+    let sign = c .before .before .before .before .before .before .before .before .before .before .before .before .before .before .before .before .before .before .before .before .before in
+    let body = c .before .before .before .before .before .before .before .before .before .before .before .before in
+    let dl = c .before .before .before .before .before .before .before .before .before .before .before .before .before .before .before .before .before .before .before .before .before .before .before .before .delimiter-of .ensures in
+    let ko₁ = sign .put-sign .kept .0 in
+    let kg₁ = sign .put-sign .kept .1 .0 in
+    let ko₂ = body .write-slot .kept .1 .1 .1 .1 .1 .0 in
+    let kg₂ = body .write-slot .kept .1 .1 .1 .1 .1 .1 .0 in
+    let ks₂ = body .write-slot .kept .1 .1 .1 .1 .1 .1 .1 .1 .0 in
+    let wd = s .pre .1 .slot .wide in
     let fit = c .before .before .before .before .before .if1 .left in
-    let few = spans-few (within (slotAt (c .before .before .before .before .before .before .before .before .before .before .before .before .before .before .before .before .before .before .before .before .before .before .before .before .before .before .before .before .before .before .before .args .text .now) (c .before .before .before .before .before .before .before .before .before .before .before .before .before .before .before .before .before .before .before .before .before .before .before .before .before .before .before .before .before .before .before .args .nums .now) (c .before .before .before .before .before .before .before .before .before .before .before .before .before .before .before .before .before .before .before .before .before .before .before .before .before .before .before .before .before .before .before .args .k) (c .before .before .before .before .before .before .before .before .before .before .before .before .before .before .before .before .before .before .before .before .before .before .before .before .before .before .before .before .before .before .before .args .i + 1))) start in
-    let cn = c .before .before .before .before .before .before .before .before .before .before .before .before .write-slot .ensures .wrote .count in
-    let sr = mark-slot (c .before .before .before .before .before .before .before .before .before .before .before .before .before .before .before .before .before .before .before .before .before .before .before .before .before .before .before .before .before .before .before .args .text .now) (c .before .before .before .before .before .before .before .before .before .before .before .before .before .before .before .before .before .before .before .before .before .before .before .before .before .before .before .before .before .before .before .args .nums .now) (c .before .before .before .before .before .before .before .before .before .before .before .before .before .before .before .before .before .before .before .before .before .before .before .before .before .before .before .before .before .before .before .args .k) (c .before .before .before .before .before .before .before .before .before .before .before .before .before .before .before .before .before .before .before .before .before .before .before .before .before .before .before .before .before .before .before .args .i) (c .before .before .before .before .before .before .before .before .before .before .before .before .before .before .before .before .before .before .before .before .before .before .before .before .before .before .before .before .before .before .before .args .mask) (c .before .before .before .before .before .before .before .before .before .before .before .before .before .before .before .before .before .before .before .before .before .before .before .before .before .before .before .before .before .before .before .args .before) (c .before .before .before .before .before .before .before .before .before .before .before .before .before .before .before .before .before .before .before .before .before .before .before .before .before .before .before .before .before .before .before .args .out .now) (c .before .before .before .before .before .before .before .before .before .before .before .before .before .before .before .before .before .before .before .before .before .before .before .before .before .before .before .before .before .before .before .args .origins .now) (c .before .before .before .before .before .before .before .before .before .before .before .before .before .before .before .before .before .before .before .before .before .before .before .before .before .before .before .before .before .before .before .args .spans .now) (c .before .before .before .before .before .before .before .before .before .before .before .before .before .before .before .before .before .before .before .before .before .before .before .before .before .before .before .before .before .before .before .args .count) (c .before .before .before .before .before .before .before .before .before .before .before .before .before .before .before .before .before .before .before .before .before .before .before .before .before .before .before .before .before .before .before .pre .1) _ (c .before .before .before .before .before .before .before .before .before .before .before .before .before .before .before .before .before .before .before .before .before .before .before .before .before .before .before .before .before .before .before .args .out .now) (c .before .before .before .before .before .before .before .before .before .before .before .before .before .before .before .before .before .before .before .before .before .before .before .before .before .before .before .before .before .before .before .args .origins .now) (c .before .before .before .before .before .before .before .before .before .before .before .before .before .before .before .before .bit-of .ensures) refl refl .room in
-    (((ask .0, fit), (omega arith, omega arith)), ((ask .1, omega arith), ((bf, nx), λ j p q. (let w = ask .2 j p q in omega arith))))
+    let ask = mark-asks (s .args .text .now) (s .args .nums .now) (s .args .k) (s .args .i) (s .args .before) _ _ _ _ _ _ _ _ _ _ _ _ _ _ _ dl ko₁ kg₁ (ko₂ ∙ ko₁) (kg₂ ∙ kg₁) wd (sign .put-sign .ensures) (body .write-slot .ensures) fit (s .pre .1 .some) ks₂ in
+    let sh = s .pre .1 .slot .short in
+    let bf = s .pre .1 .small in
+    let nx = next-small _ _ _ (c .before .before .before .before .next-of .ensures) (c .next-byte .ensures) in
+    (((ask .0, fit), (omega arith, omega arith)), (ask .1, ((bf, nx), λ r j p q. (let w = ask .2 r j p q in omega arith))))
 
 write-mark-last-of-requires : (t : ℕ) → write-mark-lts.Need-last-of-requires (
   delimiter-of-reads.Asked,
@@ -578,11 +580,23 @@ write-mark-returns-2 : (t : ℕ) → write-mark-lts.Need-returns-2 (
   last-of-reads.Learnt,
 ) (write-mark-at t) write-mark.Post
 write-mark-returns-2 t c =
-    let nx = subst (λ (o : Slots). NextIs (next (within o)) (c .before .before .before .before .before .before .before .before .before .before .before .before .next-of .result)) (c .before .before .before .before .before .before .before .before .before .before .before .before .before .before .before .before .before .before .before .before .write-slot .ensures .behind) (c .before .before .before .before .before .before .before .before .before .before .before .before .next-of .ensures) in
-    let ds = delimiter-small (kindNumbered (getD (c .before .before .before .before .before .before .before .before .before .before .before .before .before .before .before .before .before .before .before .before .before .before .before .before .before .before .before .before .before .before .before .before .before .before .before .before .before .before .before .args .nums .now) (2 * length (c .before .before .before .before .before .before .before .before .before .before .before .before .before .before .before .before .before .before .before .before .before .before .before .before .before .before .before .before .before .before .before .before .before .before .before .before .before .before .before .args .text .now) + 2 + c .before .before .before .before .before .before .before .before .before .before .before .before .before .before .before .before .before .before .before .before .before .before .before .before .before .before .before .before .before .before .before .before .before .before .before .before .before .before .before .args .i) 0 % 4)) (c .before .before .before .before .before .before .before .before .before .before .before .before .before .before .before .before .before .before .before .before .before .before .before .before .before .before .before .before .before .before .before .before .delimiter-of .result) (c .before .before .before .before .before .before .before .before .before .before .before .before .before .before .before .before .before .before .before .before .before .before .before .before .before .before .before .before .before .before .before .before .delimiter-of .ensures) in
-    mark-written-by (c .before .before .before .before .before .before .before .before .before .before .before .before .before .before .before .before .before .before .before .before .before .before .before .before .before .before .before .before .before .before .before .before .before .before .before .before .before .before .before .args .text .now) (c .before .before .before .before .before .before .before .before .before .before .before .before .before .before .before .before .before .before .before .before .before .before .before .before .before .before .before .before .before .before .before .before .before .before .before .before .before .before .before .args .nums .now) (c .before .before .before .before .before .before .before .before .before .before .before .before .before .before .before .before .before .before .before .before .before .before .before .before .before .before .before .before .before .before .before .before .before .before .before .before .before .before .before .args .k) (c .before .before .before .before .before .before .before .before .before .before .before .before .before .before .before .before .before .before .before .before .before .before .before .before .before .before .before .before .before .before .before .before .before .before .before .before .before .before .before .args .i) (c .before .before .before .before .before .before .before .before .before .before .before .before .before .before .before .before .before .before .before .before .before .before .before .before .before .before .before .before .before .before .before .before .before .before .before .before .before .before .before .args .before) _ _ _ _ _ _ _ _ _ _ _ _ _ _ _ (c .before .before .before .before .before .before .before .before .before .before .before .before .before .before .before .before .before .before .before .before .before .before .before .before .before .before .before .before .before .before .before .before .delimiter-of .ensures) (c .before .before .before .before .before .before .before .before .before .before .before .before .before .before .before .before .before .before .before .before .before .before .before .before .before .before .before .before .before .put-sign .kept .0) (c .before .before .before .before .before .before .before .before .before .before .before .before .before .before .before .before .before .before .before .before .before .before .before .before .before .before .before .before .before .put-sign .kept .1 .0) (c .before .before .before .before .before .before .before .before .before .before .before .before .before .before .before .before .before .before .before .before .write-slot .kept .1 .1 .1 .1 .1 .0 ∙ c .before .before .before .before .before .before .before .before .before .before .before .before .before .before .before .before .before .before .before .before .before .before .before .before .before .before .before .before .before .put-sign .kept .0) (c .before .before .before .before .before .before .before .before .before .before .before .before .before .before .before .before .before .before .before .before .write-slot .kept .1 .1 .1 .1 .1 .1 .0 ∙ c .before .before .before .before .before .before .before .before .before .before .before .before .before .before .before .before .before .before .before .before .before .before .before .before .before .before .before .before .before .put-sign .kept .1 .0) (c .before .before .before .before .before .before .before .before .before .before .before .before .before .before .before .before .before .before .before .before .before .before .before .before .before .before .before .before .before .before .before .before .before .before .before .before .before .before .before .pre .1 .slot .wide) (c .before .before .before .before .before .before .before .before .before .before .before .before .before .before .before .before .before .before .before .before .before .before .before .before .before .before .before .before .before .put-sign .ensures) (c .before .before .before .before .before .before .before .before .before .before .before .before .before .before .before .before .before .before .before .before .write-slot .ensures) (c .before .before .before .before .before .before .before .before .before .before .before .before .before .if1 .left) (c .before .before .before .before .before .before .before .before .before .before .before .before .before .before .before .before .before .before .before .before .before .before .before .before .before .before .before .before .before .before .before .before .before .before .before .before .before .before .before .pre .1 .some) (mark-room (c .before .before .before .before .before .before .before .before .before .before .before .before .before .before .before .before .before .before .before .before .before .before .before .before .before .before .before .before .before .before .before .before .before .before .before .before .before .before .before .args .text .now) (c .before .before .before .before .before .before .before .before .before .before .before .before .before .before .before .before .before .before .before .before .before .before .before .before .before .before .before .before .before .before .before .before .before .before .before .before .before .before .before .args .nums .now) (c .before .before .before .before .before .before .before .before .before .before .before .before .before .before .before .before .before .before .before .before .before .before .before .before .before .before .before .before .before .before .before .before .before .before .before .before .before .before .before .args .k) (c .before .before .before .before .before .before .before .before .before .before .before .before .before .before .before .before .before .before .before .before .before .before .before .before .before .before .before .before .before .before .before .before .before .before .before .before .before .before .before .args .i) (c .before .before .before .before .before .before .before .before .before .before .before .before .before .before .before .before .before .before .before .before .before .before .before .before .before .before .before .before .before .before .before .before .before .before .before .before .before .before .before .args .mask) (c .before .before .before .before .before .before .before .before .before .before .before .before .before .before .before .before .before .before .before .before .before .before .before .before .before .before .before .before .before .before .before .before .before .before .before .before .before .before .before .args .before) (c .before .before .before .before .before .before .before .before .before .before .before .before .before .before .before .before .before .before .before .before .before .before .before .before .before .before .before .before .before .before .before .before .before .before .before .before .before .before .before .args .out .now) (c .before .before .before .before .before .before .before .before .before .before .before .before .before .before .before .before .before .before .before .before .before .before .before .before .before .before .before .before .before .before .before .before .before .before .before .before .before .before .before .args .origins .now) (c .before .before .before .before .before .before .before .before .before .before .before .before .before .before .before .before .before .before .before .before .before .before .before .before .before .before .before .before .before .before .before .before .before .before .before .before .before .before .before .args .spans .now) (c .before .before .before .before .before .before .before .before .before .before .before .before .before .before .before .before .before .before .before .before .before .before .before .before .before .before .before .before .before .before .before .before .before .before .before .before .before .before .before .args .count) (c .before .before .before .before .before .before .before .before .before .before .before .before .before .before .before .before .before .before .before .before .before .before .before .before .before .before .before .before .before .before .before .before .before .before .before .before .before .before .before .pre .1))
-    _ _ _ _ _ _ _ _ (c .before .before .before .before .before .before .before .finish-mark .kept .0 ∙ c .before .before .before .before .before .before .before .before .before .before .before .before .before .before .before .before .before .before .before .before .write-slot .kept .1 .1 .1 .1 .1 .0 ∙ c .before .before .before .before .before .before .before .before .before .before .before .before .before .before .before .before .before .before .before .before .before .before .before .before .before .before .before .before .before .put-sign .kept .0) (c .before .before .before .before .before .before .before .finish-mark .kept .1 .0 ∙ c .before .before .before .before .before .before .before .before .before .before .before .before .before .before .before .before .before .before .before .before .write-slot .kept .1 .1 .1 .1 .1 .1 .0 ∙ c .before .before .before .before .before .before .before .before .before .before .before .before .before .before .before .before .before .before .before .before .before .before .before .before .before .before .before .before .before .put-sign .kept .1 .0)
-    (next-is _ _ _ nx (c .before .before .before .before .before .before .before .before .next-byte .ensures)) (c .before .before .before .before .before .before .before .finish-mark .ensures) (c .last-of .ensures) refl (last-small (c .before .before .before .before .before .before .before .finish-mark .result .braces) (c .before .before .before .before .before .before .before .before .before .before .before .before .before .before .before .before .before .before .before .before .before .before .before .before .before .before .before .before .before .before .before .before .delimiter-of .result) _ ds (c .last-of .ensures))
+    let s = c .before .before .before .before .before .before .before .before .before .before .before .before .before .before .before .before .before .before .before .before .before .before .before .before .before .before .before .before .before .before .before .before .before .before .before .before .before .before .before in
+    let sign = c .before .before .before .before .before .before .before .before .before .before .before .before .before .before .before .before .before .before .before .before .before .before .before .before .before .before .before .before .before in
+    let body = c .before .before .before .before .before .before .before .before .before .before .before .before .before .before .before .before .before .before .before .before in
+    let dl = c .before .before .before .before .before .before .before .before .before .before .before .before .before .before .before .before .before .before .before .before .before .before .before .before .before .before .before .before .before .before .before .before .delimiter-of .ensures in
+    let ko₁ = sign .put-sign .kept .0 in
+    let kg₁ = sign .put-sign .kept .1 .0 in
+    let ko₂ = body .write-slot .kept .1 .1 .1 .1 .1 .0 in
+    let kg₂ = body .write-slot .kept .1 .1 .1 .1 .1 .1 .0 in
+    let ks₂ = body .write-slot .kept .1 .1 .1 .1 .1 .1 .1 .1 .0 in
+    let wd = s .pre .1 .slot .wide in
+    let fit = c .before .before .before .before .before .before .before .before .before .before .before .before .before .if1 .left in
+    let end = c .before .before .before .before .before .before .before in
+    let nx = subst (λ (o : Slots). NextIs (next (within o)) (c .before .before .before .before .before .before .before .before .before .before .before .before .next-of .result)) (body .write-slot .ensures .behind) (c .before .before .before .before .before .before .before .before .before .before .before .before .next-of .ensures) in
+    let ds = delimiter-small (kindNumbered (getD (s .args .nums .now) (2 * length (s .args .text .now) + 2 + s .args .i) 0 % 4)) (c .before .before .before .before .before .before .before .before .before .before .before .before .before .before .before .before .before .before .before .before .before .before .before .before .before .before .before .before .before .before .before .before .delimiter-of .result) dl in
+    mark-written-by (s .args .text .now) (s .args .nums .now) (s .args .k) (s .args .i) (s .args .before) _ _ _ _ _ _ _ _ _ _ _ _ _ _ _ dl ko₁ kg₁ (ko₂ ∙ ko₁) (kg₂ ∙ kg₁) wd (sign .put-sign .ensures) (body .write-slot .ensures) fit (s .pre .1 .some) ks₂
+    _ _ _ _ _ _ _ _ (end .finish-mark .kept .0 ∙ ko₂ ∙ ko₁) (end .finish-mark .kept .1 .0 ∙ kg₂ ∙ kg₁) (end .finish-mark .kept .1 .1 .0)
+    (next-is _ _ _ nx (c .before .before .before .before .before .before .before .before .next-byte .ensures)) (end .finish-mark .ensures) (c .last-of .ensures) refl (last-small (end .finish-mark .result .braces) (c .before .before .before .before .before .before .before .before .before .before .before .before .before .before .before .before .before .before .before .before .before .before .before .before .before .before .before .before .before .before .before .before .delimiter-of .result) _ ds (c .last-of .ensures))
 
 abbrev write-slot-Inv-loop : write-slot-lts.InvT-loop
 write-slot-Inv-loop text nums k from mask out₀ origins₀ spans₀ count n depth i₀ to₀ c₀ before₀ guarded₀ out origins spans i to c before guarded =
@@ -1129,7 +1143,7 @@ write-slot-write-mark-requires t c κs =
     let sh = s .short in let wd = s .wide in (
       omega arith,
       record {
-        slot = record { table = s .table; up-to = omega arith; small = s .small; fresh = l .inv .3 .fresh; short = omega arith; wide = omega arith; room = l .inv .3 .room };
+        slot = record { table = s .table; up-to = omega arith; small = s .small; fresh = l .inv .3 .fresh; short = omega arith; wide = omega arith; few = l .inv .3 .few };
         inside = omega arith;
         mark = c .before .before .before .before .before .if4 .left;
         some = c .before .before .before .before .content .ensures .some (c .before .before .before .if5 .taken);

@@ -25,7 +25,7 @@ write-slot-requires c κs =
     let pre = c .before .before .before .before .before .before .before .before .before .before .before .before .before .before .before .before .before .pre in
     let kn₁ = c .before .before .before .before .before .before .before .before .before .before .number .kept .1 .0 in
     let kn₂ = c .before .before .before .before .before .before .read-items .kept .1 .0 in
-    pass-slot (a .text .now) _ _ (c .before .before .before .before .before .before .read-items .result) (omega arith) (omega arith) (c .before .before .before .before .before .before .before .before .before .before .number .ensures) (c .before .before .before .before .before .before .read-items .ensures) _ _ _ (omega arith) (omega arith) (pre .1 .1)
+    pass-slot (a .text .now) _ _ (c .before .before .before .before .before .before .read-items .result) (omega arith) (omega arith) (c .before .before .before .before .before .before .before .before .before .before .number .ensures) (c .before .before .before .before .before .before .read-items .ensures) _ _ (omega arith) (omega arith)
 
 same-length : tie.Need-same-length
 same-length c = search needs

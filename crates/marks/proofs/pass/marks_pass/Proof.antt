@@ -1,0 +1,41 @@
+use borrow.Author.Needs.{needs}
+use native.Mathlib.Omega.{arith}
+use mathlib.Core.Path.{_≡_, refl, sym, ap, _∙_}
+use Prim.Native.Nat.{ℕ, suc, _+_, _-_, _≤_, _<_}
+use mathlib.Core.List.{List, [], _∷_, _++_}
+use lib.ListN.{length, getD}
+use Rattle.marks.proofs.Passing.{pass-held}
+use Rattle.marks.proofs.pass.marks_pass.Statement.{statement}
+use Rattle.marks.proofs.pass.marks_pass.Tie as tie
+use Rattle.marks.proofs.pass.marks_pass.Reads as reads
+use Rattle.marks.proofs.pass.marks_pass.Lts as lts
+use Rattle.marks.proofs.pass.write_marks.Reads as write-marks-reads
+
+slice-aggregate-write-marks : tie.Need-slice-aggregate-write-marks
+slice-aggregate-write-marks c = search needs
+
+write-marks-requires : tie.Need-write-marks-requires
+write-marks-requires c κs = search needs
+
+same-length : tie.Need-same-length
+same-length c = search needs
+
+same-length-2 : tie.Need-same-length-2
+same-length-2 c = search needs
+
+same-length-3 : tie.Need-same-length-3
+same-length-3 c = search needs
+
+returns : tie.Need-returns
+returns c = pass-held (c .before .before .before .before .before .before .before .write-marks .ensures)
+
+pub marks-pass-spec : {M : Type 1} → statement M
+marks-pass-spec =
+    tie.close
+    (tie.spec
+    slice-aggregate-write-marks
+    write-marks-requires
+    same-length
+    same-length-2
+    same-length-3
+    returns)
