@@ -1,0 +1,3 @@
+// The passes of the chain, one by one, over work memory: each reads its source at the front of the work pair, and leaves its text there.
+pub mod list;
+pub mod mark;
