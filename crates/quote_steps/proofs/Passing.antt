@@ -16,10 +16,10 @@ use Rattle.text.specs.Writes.{Holds, Appends, AppendsIn}
 use Rattle.text.proofs.Writing.{holds-fits, cells-le, cells-short, cells-at, part-cons, part-end}
 use Rattle.text.proofs.Areas.{area-length}
 use Rattle.text.proofs.Clearing.{cells-bytes}
 use Rattle.quote_blocks.proofs.Reading.{read-opener, read-closer, read-text, read-end}
 use Rattle.quote_lines.specs.Tags.{attributionOf, openerSize, closerSize}
-use Rattle.quote_blocks.specs.Quotes.{Token, text, opens, closes, tokens, Quote, State, start, held, total, close, closed, step, finish, run, quotes, finishNeed, runNeed, quotesNeed, quoteBlock, tooDeepFrom, tooDeep}
-use Rattle.quote_blocks.specs.Passes.{opening, Stood, Stands, Closes, ClosesIn, Takes, TakesOne, Leaves, ClosesLast, ClosesAll, Reached, Runs}
+use Rattle.quote_blocks.specs.Quotes.{Token, text, opens, closes, tokens, Quote, State, start, opening, held, total, close, closed, step, finish, run, quotes, finishNeed, runNeed, quotesNeed, quoteBlock, tooDeepFrom, tooDeep}
+use Rattle.quote_steps.specs.Passes.{Stood, Stands, Closes, ClosesIn, Takes, TakesOne, Leaves, ClosesLast, ClosesAll, Reached, Runs}
 
 -- ---- an area
 
