@@ -1,0 +1,2 @@
+// The quote pass in work memory.
+pub mod close;
