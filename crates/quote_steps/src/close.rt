@@ -15,7 +15,7 @@ ghost use Rattle.text.specs.Writes.{Appends};
 ghost use Rattle.attribution_parts.specs.Attribution.{caption};
 ghost use Rattle.quote_lines.specs.Tags.{attributionOf};
 ghost use Rattle.quote_blocks.specs.Quotes.{quoteBlock};
-ghost use Rattle.quote_steps.specs.Passes.{ClosesIn, ClosesLast};
+ghost use Rattle.quote_steps.specs.Passes.{Lent, ClosesIn, ClosesLast};
 
 // The place past every slice's end.
 const FULL: usize = 0xffff_ffff_ffff_ffff;
@@ -90,7 +90,7 @@ fn close_quote(
     out: &mut [u8],
     origins: &mut [u32],
 ) -> TextAt
-    requires { ⌜ ((tag ≤ e) × ((e ≤ end) × ((begin ≤ to) × (to ≤ end)))) × (((end + length (now out) ≤ length (now work)) × ((end ≤ length (now numbers)) × (end ≤ 268435456))) × ((length (now out) ≤ length (now origins)) × (end ≤ begin + length (now out)))) ⌝ }
+    requires { ⌜ ((tag ≤ e) × ((e ≤ end) × ((begin ≤ to) × (to ≤ end)))) × Lent begin end (now work) (now numbers) (now out) (now origins) ⌝ }
     ensures { λ r. ⌜ (begin ≤ r .0) × ClosesIn (now (work .entry)) (now (numbers .entry)) end begin to (now (work .exit)) (now (numbers .exit)) (r .0) (quoteBlock (caption (attributionOf (drop tag (take e (now (work .entry))))))) ⌝ }
 {
     let n = build_block(work, numbers, e, end, tag, begin, to, out, origins);
@@ -151,7 +151,7 @@ pub fn close_innermost(
     out: &mut [u8],
     origins: &mut [u32],
 ) -> TextAt
-    requires { ⌜ ((e ≤ base) × ((base ≤ to) × (to ≤ end))) × ((((end + length (now out) ≤ length (now work)) × ((end ≤ length (now numbers)) × (end ≤ 268435456))) × ((length (now out) ≤ length (now origins)) × (end ≤ base + length (now out)))) × ((0 < «open») × ((«open» ≤ length (now starts)) × («open» ≤ length (now tags))))) ⌝ }
+    requires { ⌜ ((e ≤ base) × ((base ≤ to) × (to ≤ end))) × (Lent base end (now work) (now numbers) (now out) (now origins) × ((0 < «open») × ((«open» ≤ length (now starts)) × («open» ≤ length (now tags))))) ⌝ }
     ensures { λ r. ⌜ (base ≤ r .0) × ((take e (now (work .exit)) ≡ take e (now (work .entry))) × ClosesLast caption e base end (now (work .entry)) (now (numbers .entry)) to (now (starts .entry)) (now (tags .entry)) «open» (now (work .exit)) (now (numbers .exit)) (r .0)) ⌝ }
 {
     let begin = start_of(starts, open - 1, base, to);

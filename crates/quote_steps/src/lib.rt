@@ -1,2 +1,3 @@
 // The quote pass in work memory.
 pub mod close;
+pub mod pass;
