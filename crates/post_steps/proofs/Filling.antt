@@ -4,9 +4,112 @@ use mathlib.Core.List.{List, []}
 use Prim.Native.Nat.{ℕ, _+_, _-_, _≤_, _<_}
 use native.Mathlib.Omega.{arith}
 use native.Mathlib.Decide.{decLe}
-use lib.ListN.{length, take, drop}
+use lib.ListN.{length, take, drop, getD, set, length-drop}
+use lib.Seq.{getD-drop, take-suc, take-suc-set, take-take, drop-set-lt, drop-drop}
+use native.Mathlib.Numerals.{add-one}
 use Rattle.text.specs.Cells.{Cell, cells, part}
 use Rattle.text.specs.Writes.{Holds, Appends, LaidOut}
+use Rattle.text.proofs.Writing.{cells-le, cells-short, holds-fits}
+use Rattle.text.proofs.Sources.{cells-taken, cells-sub, part-take}
+use Rattle.quote_steps.specs.Passes.{Leaves}
 use Rattle.list_blocks.specs.Lists.{lists, listsNeed}
 use Rattle.list_steps.specs.Standing.{Passed}
+use Rattle.list_steps.proofs.Needs.{lists-fits}
 use Rattle.post_steps.specs.Fills.{Stands, Fills, Lays}
+
+part-front : (n : ℕ) (v : List Cell) → part 0 n v ≡ take n v
+unfolding part
+part-front n v = refl
+
+part-within : (a e k : ℕ) (v : List Cell) → e ≤ k → part a e (take k v) ≡ part a e v
+unfolding part
+part-within a e k v h = ap (drop a) (take-take e k v h)
+
+-- ---- marks
+
+nothing-held : (v : List Cell) → Holds v 0 []
+nothing-held v = record { end = λ h. refl; text = λ h. refl; full = λ h. absurd (omega arith) }
+
+module _ (os gs : List ℕ) (m n : ℕ) (x : List Cell) (h : Holds (cells os gs) n x) (lo : length os ≡ m) (lg : m ≤ length gs) where
+  size : length (cells os gs) ≡ m
+  size = let a = cells-le os gs m (omega arith) lg in let b = cells-short os gs in omega arith
+
+  pub marks-full : (bs ns : List ℕ) → m < n → Fills m (length x) x n bs ns
+  marks-full bs ns far = record { fits = λ k. absurd (let l = size in let e = h .end (omega arith) in omega arith); full = λ k. far }
+
+  pub marks-done : (w : List Cell) (bs ns : List ℕ) (r : ℕ) → n ≤ m → m ≤ length bs → m ≤ length ns → Appends w 0 (cells bs ns) r (part 0 n (cells os gs)) → Fills m (length x) x n bs ns
+  marks-done w bs ns r near hb hn a =
+      let l = size in
+      let room = cells-le bs ns m hb hn in
+      let k : length x ≤ length (cells os gs) = holds-fits (cells os gs) n x h (omega arith) in
+      let y : part 0 n (cells os gs) ≡ x = part-front n (cells os gs) ∙ h .text k in
+      let t : Holds (cells bs ns) r x = rw y at (a .step [] (nothing-held w)) in
+      let j : n ≡ length x = h .end k in
+      let z : r ≡ length x = t .end (omega arith) in
+      let q : n ≡ r = omega arith in
+      record { fits = λ i. (j, ap (λ (e : ℕ). take e (cells bs ns)) q ∙ t .text (omega arith)); full = λ i. absurd (omega arith) }
+
+-- ---- moving to the front
+
+-- i elements have been moved to the front, from place a on
+module _ (orig now : List ℕ) (a i : ℕ) (l : length now ≡ length orig) (front : take i now ≡ take i (drop a orig)) (rest : drop i now ≡ drop i orig) where
+  moved-at : getD now (a + i) 0 ≡ getD (drop a orig) i 0
+  moved-at =
+      let e : a + i ≡ i + a = omega arith in
+      ap (λ (k : ℕ). getD now k 0) e ∙ sym (getD-drop i now a 0) ∙ ap (λ (xs : List ℕ). getD xs a 0) rest ∙ getD-drop i orig a 0 ∙ ap (λ (k : ℕ). getD orig k 0) (sym e)
+      ∙ sym (getD-drop a orig i 0)
+
+  pub moved-turn : a + i < length orig → take (i + 1) (set now i (getD now (a + i) 0)) ≡ take (i + 1) (drop a orig)
+  moved-turn h =
+      let k : length (drop a orig) ≡ length orig - a = length-drop a orig in
+      rw (add-one, take-suc-set now i (getD now (a + i) 0) (omega arith), take-suc (drop a orig) i 0 (omega arith), front, moved-at)
+
+  pub moved-rest : (v : ℕ) → drop (i + 1) (set now i v) ≡ drop (i + 1) orig
+  moved-rest v = drop-set-lt (i + 1) now i v (omega arith) ∙ sym (drop-drop 1 i now) ∙ ap (drop 1) rest ∙ drop-drop 1 i orig
+
+pub moved-cells : (bs ns bs' ns' : List ℕ) (a n : ℕ) → a + n ≤ length bs → a + n ≤ length ns → take n bs' ≡ take n (drop a bs) → take n ns' ≡ take n (drop a ns)
+    → take n (cells bs' ns') ≡ part a (a + n) (cells bs ns)
+moved-cells bs ns bs' ns' a n h k e g =
+    let z = cells-le bs ns (a + n) h k in
+    sym (cells-taken n bs' ns') ∙ ap (λ (l : List ℕ). cells l (take n ns')) e ∙ ap (λ (l : List ℕ). cells (take n (drop a bs)) l) g ∙ cells-sub bs ns a n
+    ∙ sym (part-take (cells bs ns) a n (omega arith))
+
+-- ---- quotes
+
+module _ (m r need : ℕ) (x : List Cell) (v : List Cell) (p : Leaves m (m + m) (take (m + m) v) r x need) (small : length x ≤ need) where
+  pub quotes-up : r ≤ m + m → m ≤ r
+  quotes-up near =
+      elim (decLe need m) [ yes h ↦ (let e = p .fits (omega arith) .0 in omega arith) | no h ↦ absurd (let e = p .full (omega arith) in omega arith) ]
+
+  pub quotes-full : (bs ns : List ℕ) → m + m < r → Fills m need x r bs ns
+  quotes-full bs ns far = record { fits = λ h. absurd (let e = p .fits (omega arith) .0 in omega arith); full = λ h. omega arith }
+
+  pub quotes-done : (bs ns : List ℕ) → r ≤ m + m → take (r - m) (cells bs ns) ≡ part m (m + (r - m)) v → Fills m need x (r - m) bs ns
+  quotes-done bs ns near e =
+      record {
+        fits =
+            λ h.
+            let f = p .fits (omega arith) in
+            let l : r - m ≡ length x = (let z = f .0 in omega arith) in
+            let up = quotes-up near in
+            let q : m + (r - m) ≡ r = omega arith in
+            (l, e ∙ ap (λ (k : ℕ). part m k v) q ∙ sym (part-within m r (m + m) v near) ∙ f .1);
+        full = λ h. absurd (let w = p .full (omega arith) in omega arith);
+      }
+
+-- ---- lists
+
+module _ (m k r : ℕ) (x : List Cell) (bs ns : List ℕ) (p : Passed m x m (m + m) bs ns r) where
+  pub lists-up : r ≤ m + m → m ≤ r
+  lists-up near =
+      elim (decLe (listsNeed x) m) [ yes h ↦ (let e = p .done h .0 in omega arith) | no h ↦ absurd (let e = p .full (omega arith) in omega arith) ]
+
+  pub lists-full : {out plain : List ℕ} → m + m < r → Lays m k (listsNeed x) (lists x) r out plain
+  lists-full far = record { fits = λ h. absurd (let e = p .done h .0 in let f = lists-fits x in omega arith); full = λ h. omega arith }
+
+  pub lists-done : {out plain : List ℕ} → r ≤ m + m → LaidOut (part m r (cells bs ns)) m k out plain → Lays m k (listsNeed x) (lists x) (r - m) out plain
+  lists-done near laid =
+      record {
+        fits = λ h. (let e = p .done h .0 in omega arith, rw (p .done h .1) at laid);
+        full = λ h. absurd (let e = p .full h in omega arith);
+      }

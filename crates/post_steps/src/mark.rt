@@ -25,14 +25,6 @@ pub fn mark_text(
     if out.len() < n {
         return n;
     }
-    copy(
-        out,
-        origins,
-        PostAt(0),
-        PostAt(n),
-        work,
-        numbers,
-        TextAt(0),
-    );
+    copy(out, origins, PostAt(0), PostAt(n), work, numbers, TextAt(0));
     n
 }

@@ -4,6 +4,8 @@ use mathlib.Core.Path.{_≡_, refl, sym, ap, _∙_}
 use Prim.Native.Nat.{ℕ, suc, _+_, _-_, _≤_, _<_}
 use mathlib.Core.List.{List, [], _∷_, _++_}
 use lib.ListN.{length, getD}
+use Rattle.post_steps.proofs.Filling.{lists-up, lists-full, lists-done}
+use Rattle.text.specs.Cells.{part}
 use Rattle.post_steps.proofs.list.list_text.Statement.{statement}
 use Rattle.post_steps.proofs.list.list_text.Tie as tie
 use Rattle.post_steps.proofs.list.list_text.Reads as reads
@@ -37,15 +39,23 @@ same-length-4 c = search needs
 
 -- src/list.rt:26:9
 returns : tie.Need-returns
-returns c = ?
+unfolding part
+returns c = lists-full _ _ _ _ _ _ (c .before .before .before .before .before .before .before .before .before .list-pass .ensures) (c .if1 .taken)
 
 -- src/list.rt:28:5
 lay-part-requires : tie.Need-lay-part-requires
-lay-part-requires c κs = search needs
+lay-part-requires c κs = let pre = c .before .before .before .before .before .before .before .before .before .before .before .before .before .before .before .before .before .before .before .before .before .before .pre in
+    let p = c .before .before .before .before .before .before .before .before .before .before .before .before .before .list-pass in
+    let lw = p .kept .1 .1 .1 .1 .0 in
+    let ln = p .kept .1 .1 .1 .1 .1 .0 in
+    let lo = p .kept .1 .1 .1 .1 .1 .1 .0 in
+    let lg = p .kept .1 .1 .1 .1 .1 .1 .1 .0 in
+    let up = lists-up _ 0 _ _ _ _ (p .ensures) (c .before .before .before .before .if1 .left) in
+    search needs
 
 -- src/list.rt:29:5
 sub-result : tie.Need-sub-result
-sub-result c = search needs
+sub-result c = let up = lists-up _ 0 _ _ _ _ (c .before .before .before .before .before .before .before .before .before .before .before .before .before .before .before .before .before .before .list-pass .ensures) (c .before .before .before .before .before .before .before .before .before .if1 .left) in omega arith
 
 -- src/list.rt:12:1
 same-length-5 : tie.Need-same-length-5
@@ -65,7 +75,9 @@ same-length-8 c = search needs
 
 -- src/list.rt:12:1
 returns-2 : tie.Need-returns-2
-returns-2 c = ?
+unfolding part
+returns-2 c = let p = c .before .before .before .before .before .before .before .before .before .before .before .before .before .before .before .before .before .before .list-pass in
+    lists-done _ _ _ _ _ _ (p .ensures) (c .before .before .before .before .before .before .before .before .before .if1 .left) (rw (p .kept .1 .1 .1 .1 .1 .1 .0, p .kept .1 .1 .1 .1 .1 .1 .1 .0) at (c .before .before .before .before .lay-part .ensures))
 
 pub list-text-spec : {M : Type 1} → statement M
 list-text-spec =

@@ -4,6 +4,7 @@ use mathlib.Core.Path.{_≡_, refl, sym, ap, _∙_}
 use Prim.Native.Nat.{ℕ, suc, _+_, _-_, _≤_, _<_}
 use mathlib.Core.List.{List, [], _∷_, _++_}
 use lib.ListN.{length, getD}
+use Rattle.post_steps.proofs.Filling.{marks-full, marks-done}
 use Rattle.post_steps.proofs.mark.mark_text.Statement.{statement}
 use Rattle.post_steps.proofs.mark.mark_text.Tie as tie
 use Rattle.post_steps.proofs.mark.mark_text.Reads as reads
@@ -29,7 +30,11 @@ same-length-3 c = search needs
 
 -- src/mark.rt:26:9
 returns : tie.Need-returns
-returns c = ?
+returns c = let pre = c .before .before .before .before .before .before .before .before .before .before .before .before .before .before .before .before .pre in
+    let p = c .before .before .before .before .before .before .before .marks-pass in
+    let lo = p .kept .1 .1 .0 in
+    let lg = p .kept .1 .1 .1 .0 in
+    marks-full _ _ (length (c .before .before .before .before .before .before .before .before .before .before .before .before .before .before .before .before .args .out .now)) _ _ (p .ensures) lo (omega (arith, pre, lg)) _ _ (omega (arith, lo, c .if1 .taken))
 
 -- src/mark.rt:28:5
 copy-requires : tie.Need-copy-requires
@@ -53,7 +58,15 @@ same-length-7 c = search needs
 
 -- src/mark.rt:13:1
 returns-2 : tie.Need-returns-2
-returns-2 c = ?
+returns-2 c = let pre = c .before .before .before .before .before .before .before .before .before .before .before .before .before .before .before .before .before .before .before .before .before .before .before .before .before .pre in
+    let p = c .before .before .before .before .before .before .before .before .before .before .before .before .before .before .before .before .marks-pass in
+    let lo = p .kept .1 .1 .0 in
+    let lg = p .kept .1 .1 .1 .0 in
+    let ln = p .kept .1 .0 in
+    let q = c .before .before .before .before .copy in
+    let lw = q .kept .1 .1 .1 .1 .0 in
+    let lm = q .kept .1 .1 .1 .1 .1 .0 in
+    marks-done _ _ (length (c .before .before .before .before .before .before .before .before .before .before .before .before .before .before .before .before .before .before .before .before .before .before .before .before .before .args .out .now)) _ _ (p .ensures) lo (omega (arith, pre, lg)) _ _ _ _ (omega (arith, lo, c .before .before .before .before .before .before .before .before .before .if1 .left)) (omega (arith, pre, lw)) (omega (arith, pre, ln, lm)) (q .ensures)
 
 pub mark-text-spec : {M : Type 1} → statement M
 mark-text-spec =

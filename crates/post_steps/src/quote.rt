@@ -1,0 +1,33 @@
+// The second pass of the chain: quotes.
+use crate::front::move_front;
+use quote_steps::pass::quote_pass;
+ghost use mathlib.Core.Path.{_≡_};
+ghost use mathlib.Core.Bool.{false};
+ghost use Prim.Native.Nat.{_*_, _≤_};
+ghost use lib.ListN.{length, take};
+ghost use Rattle.text.specs.Cells.{cells};
+ghost use Rattle.attribution_parts.specs.Attribution.{caption};
+ghost use Rattle.quote_blocks.specs.Quotes.{tooDeep, quotes, quotesNeed};
+ghost use Rattle.post_steps.specs.Fills.{Fills};
+
+// Quotes of the n cells at the front of the work pair, at its front; out and origins are free after it.
+pub fn quote_text(
+    n: usize,
+    work: &mut [u8],
+    numbers: &mut [u32],
+    out: &mut [u8],
+    origins: &mut [u32],
+) -> usize
+    requires { ⌜ (((n ≤ length (now out)) × ((length (now out) ≤ 16777216) × (length (now out) ≤ length (now origins)))) × ((3 * length (now out) ≤ length (now work)) × (3 * length (now out) ≤ length (now numbers)))) × (tooDeep (take n (cells (now work) (now numbers))) ≡ false) ⌝ }
+    ensures { λ r. ⌜ Fills (length (now (out .entry))) (quotesNeed caption (take n (cells (now (work .entry)) (now (numbers .entry))))) (quotes caption (take n (cells (now (work .entry)) (now (numbers .entry))))) r (now (work .exit)) (now (numbers .exit)) ⌝ }
+{
+    let m = out.len();
+    let end = m + m;
+    let z = quote_pass(work, numbers, n, m, end, out, origins);
+    let r = z.0;
+    if end < r {
+        return r;
+    }
+    move_front(work, numbers, m, r - m);
+    r - m
+}
