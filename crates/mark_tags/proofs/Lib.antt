@@ -1,13 +1,3 @@
 pub mod SplitMarks
 pub mod Depth
-pub mod Table
-pub mod Classes
-pub mod Pieces
 pub mod TagNumbers
-pub mod Scanning
-pub mod Tabling
-pub mod Stack
-pub mod TagReading
-pub mod Settling
-pub mod Masks
-pub mod Merging

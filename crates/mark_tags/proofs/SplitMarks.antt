@@ -167,7 +167,7 @@ split-wrap k b w {t} {i} s =
 split-text : (p : List Cell) (n : Next) (st : State) → Split (textStep p n st .wrote .cells) [] p
 unfolding textStep pieceText
 split-text [] n st = done
-split-text (c ∷ p) n st = split-backslash (st .guarded && is "}" (c .byte)) (split-escape (touching (marked n)) true (keeps-all (c ∷ p)))
+split-text (c ∷ p) n st = split-backslash (st .guarded && is "}" (c .byte)) (split-escape (touching (marked n)) _ (keeps-all (c ∷ p)))
 
 -- A slot without content is nothing but tags that are taken.
 no-content : (t : Items) → content t ≡ false → taken t ≡ spell t

@@ -1,5 +1,2 @@
-// Tags to marks: reading tags, the table of items, which marks are closed and which get a slot.
-pub mod class;
-pub mod items;
-pub mod piece;
+// Tags to marks: the definition of the pass, and reading tags.
 pub mod tags;

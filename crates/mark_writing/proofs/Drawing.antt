@@ -15,7 +15,7 @@ use Rattle.text.specs.Cells.{Cell, cells}
 use Rattle.text.specs.Writes.{Holds, Appends}
 use Rattle.text.proofs.Writing.{holds-fits, appends-none, appends-then}
 use Rattle.mark_tags.specs.Marks.{Kind, Items, end, text, gone, mark, Span, Written, shift, plain, _▹_, content, Next, next, nextByte, marked, State, start, textStep, pieceText, touching, markStep, wrap, wrapText, opening, closing, delimiter, braced, firstOr, lastOr, absent, backslash, escapeLast, write, spanNumbers}
-use Rattle.mark_writing.specs.Spans.{raised, Writes}
+use Rattle.mark_pieces.specs.Spans.{raised, Writes}
 
 -- ---- texts behind one another
 

@@ -17,8 +17,8 @@ use Rattle.text.proofs.Writing.{holds-fits, appends-then, part-snoc}
 use Rattle.text.proofs.Clearing.{cells-bytes}
 use Rattle.mark_tags.specs.Marks.{Kind, bold, italic, underline, strike, Items, end, text, gone, mark, Span, Written, shift, plain, _▹_, content, Next, next, nextByte, State, start, Step, textStep, pieceText, touching, marked, markStep, wrap, wrapText, opening, closing, delimiter, braced, firstOr, lastOr, absent, backslash, escapeLast, write, spanNumbers}
 use Rattle.mark_tags.specs.Flat.{within, beyond, slotAt, kindNumbered, NextIs, nextNumber, behindBrace}
-use Rattle.mark_writing.specs.Spans.{raised, marksIn, Writes, Finished, SlotWritten, markAt, MarkWritten}
-use Rattle.mark_tags.proofs.Pieces.{cells-long}
+use Rattle.mark_pieces.specs.Spans.{raised, marksIn, Writes, Finished, SlotWritten, markAt, MarkWritten}
+use Rattle.mark_pieces.proofs.Pieces.{cells-long}
 use Rattle.mark_writing.proofs.Drawing.{appends-end, shift-shift}
 use Rattle.mark_writing.proofs.SlotWriting.{one-more}
 

@@ -11,9 +11,9 @@ use borrow.Author.Tests.{eqb-false}
 use lib.ListN.{length, getD}
 use Rattle.mark_tags.specs.Marks.{Kind, Items, mark, Next, nothing, a-byte, a-mark, nextByte, marked, has, add}
 use Rattle.mark_tags.specs.Flat.{within, beyond, slotAt, Fresh, depthOf, kindNumbered, kindsOf, bitOf, Held, Ready, NextIs, nextNumber}
-use Rattle.mark_writing.specs.Spans.{marksIn, Slot, MarkReady}
+use Rattle.mark_pieces.specs.Spans.{marksIn, Slot, MarkReady}
 use Rattle.mark_tags.proofs.Depth.{count, count-le, count-add, fresh-depth}
-use Rattle.mark_tags.proofs.Masks.{Fits, fits, ones-count}
+use Rattle.mark_items.proofs.Masks.{Fits, fits, ones-count}
 use Rattle.mark_writing.proofs.Slotting.{code, at-mark, around-within}
 
 pub ones-few : (mask : ℕ) → mask < 16 → ones mask ≤ 4

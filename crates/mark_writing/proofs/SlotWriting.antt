@@ -11,7 +11,7 @@ use Rattle.text.specs.Cells.{Cell, cell, cells, part}
 use Rattle.text.specs.Writes.{Appends}
 use Rattle.mark_tags.specs.Marks.{Kind, Items, end, text, gone, mark, Slots, open-end, closed, front, Written, shift, plain, _▹_, content, Next, next, marked, State, start, Step, textStep, pieceText, markStep, wrap, lastOr, absent, write, spanNumbers}
 use Rattle.mark_tags.specs.Flat.{around, within, beyond, depthOf, boundAt, slotAt, Fresh, kindNumbered, kindsOf, Held, Ready, Empty, NextIs}
-use Rattle.mark_writing.specs.Spans.{marksIn, Writes, Slot, SlotWritten, markAt, MarkWritten}
+use Rattle.mark_pieces.specs.Spans.{marksIn, Writes, Slot, SlotWritten, markAt, MarkWritten}
 use Rattle.mark_writing.proofs.Slotting.{code, spelled, front-within, front-beyond, around-within, around-beyond, at-text, at-leave, at-gone, at-mark, at-end, no-text, some-text}
 use Rattle.mark_writing.proofs.Drawing.{▹-assoc, plain-▹, ▹-plain, appends-if, writes-none, writes-plain, writes-then}
 

@@ -12,8 +12,8 @@ use Rattle.text.specs.Cells.{Cell, cell, cells, part}
 use Rattle.text.proofs.Writing.{part-cons, part-end}
 use Rattle.mark_tags.specs.Marks.{Kind, Items, end, text, gone, mark, Slots, open-end, closed, front, content, Next, nothing, a-byte, a-mark, next}
 use Rattle.mark_tags.specs.Flat.{Flat, piece, vanish, leave, enter, begun, around, view, within, beyond, depthOf, flatOf, codeAt, boundAt, flatAt, flats, slotsAt, held, slotAt, kindNumbered, Bounded, Held, Ready, Empty, Answer, nextNumber}
-use Rattle.mark_tags.proofs.Settling.{flat-leave, flat-gone, flat-enter, flat-begun, flat-code}
-use Rattle.mark_tags.proofs.Merging.{cons-flats, zero-piece}
+use Rattle.mark_items.proofs.Settling.{flat-leave, flat-gone, flat-enter, flat-begun, flat-code}
+use Rattle.mark_items.proofs.Merging.{cons-flats, zero-piece}
 
 -- ---- slots by their first item
 

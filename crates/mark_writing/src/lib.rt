@@ -1,3 +1,2 @@
-// Tags to marks: writing slots and marks.
-pub mod mark;
+// Tags to marks: looking through a slot and writing it.
 pub mod slot;

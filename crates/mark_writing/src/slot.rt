@@ -1,8 +1,8 @@
 // Looking through a slot and writing it. A slot is given by the number of its first item.
-use crate::mark::delimiter_of;
-use crate::mark::finish_mark;
-use mark_tags::items::bit_of;
-use mark_tags::piece::write_piece;
+use mark_items::items::bit_of;
+use mark_pieces::mark::delimiter_of;
+use mark_pieces::mark::finish_mark;
+use mark_pieces::piece::write_piece;
 use text::PostAt;
 use text::TextAt;
 use text::write::put_sign;
@@ -12,7 +12,7 @@ ghost use lib.Dec.{eqb};
 ghost use Rattle.text.specs.Cells.{cells};
 ghost use Rattle.mark_tags.specs.Marks.{next};
 ghost use Rattle.mark_tags.specs.Flat.{within, slotAt, NextIs, Ready, Answer};
-ghost use Rattle.mark_writing.specs.Spans.{Slot, SlotWritten, MarkReady, MarkWritten};
+ghost use Rattle.mark_pieces.specs.Spans.{Slot, SlotWritten, MarkReady, MarkWritten};
 
 // Whether a slot holds text, at some depth: 0 if so, else 1 + the item behind the slot.
 pub fn content(text: &[u8], nums: &[u32], k: usize, from: usize, depth: usize) -> usize

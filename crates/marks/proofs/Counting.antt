@@ -8,8 +8,8 @@ use native.Mathlib.Omega.{arith}
 use lib.ListN.{length, length-map}
 use Rattle.text.specs.Cells.{Cell, bytes}
 use Rattle.mark_tags.specs.Marks.{Kind, Tag, opener, closer, tagAt, more, Tokens, last, cut, onto, token, scan, Items, end, text, gone, mark, Slots, open-end, closed, front, after, ends, put, parse, _⧺_, whole, items, Kinds, no-kinds, has, add, join, merge}
-use Rattle.mark_writing.specs.Spans.{marksIn}
-use Rattle.mark_tags.proofs.Scanning.{tag-fits}
+use Rattle.mark_pieces.specs.Spans.{marksIn}
+use Rattle.mark_items.proofs.Scanning.{tag-fits}
 
 -- how many openers there are in tokens, and marks in slots
 openersIn : Tokens → ℕ

@@ -1,3 +1,4 @@
 pub mod Counting
 pub mod Flattening
 pub mod Passing
+pub mod Conversion

@@ -14,8 +14,8 @@ use Rattle.text.proofs.Copying.{length-cellsOf}
 use Rattle.mark_tags.specs.Marks as Marks
 use Rattle.mark_tags.specs.Marks.{Items, end, text, gone, mark, Written, start, write, marks, merge, no-kinds, items}
 use Rattle.mark_tags.specs.Flat.{view, within, flatMarks, flats, flatAt, slotsAt, held, slotAt, kindsOf, Fresh, Held, Itemed}
-use Rattle.mark_writing.specs.Spans.{marksIn, Writes, Slot, SlotWritten}
-use Rattle.mark_tags.proofs.Pieces.{cells-long}
+use Rattle.mark_pieces.specs.Spans.{marksIn, Writes, Slot, SlotWritten}
+use Rattle.mark_pieces.proofs.Pieces.{cells-long}
 use Rattle.marks.proofs.Counting.{marks-third}
 use Rattle.marks.proofs.Flattening.{bare, view-marks, fresh-view, written-view}
 

@@ -1,5 +1,5 @@
 // The marks pass over a text: the written cells in a pair of slices, and the spans.
-use mark_tags::items::read_items;
+use mark_items::items::read_items;
 use mark_writing::slot::Went;
 use mark_writing::slot::write_slot;
 use text::TextAt;
@@ -8,7 +8,7 @@ ghost use lib.ListN.{length};
 ghost use Rattle.text.specs.Cells.{cells, cellsOf};
 ghost use Rattle.text.specs.Writes.{Holds};
 ghost use Rattle.mark_tags.specs.Marks.{marks};
-ghost use Rattle.mark_writing.specs.Spans.{Writes};
+ghost use Rattle.mark_pieces.specs.Spans.{Writes};
 
 // Where the text ends (past the end where it does not fit), and how many span numbers there are. They are listed where they fit.
 pub fn write_marks(

@@ -28,10 +28,10 @@ use Rattle.mark_writing.proofs.slot.+write_mark+write_slot.Lts-write_ma
 use Rattle.mark_writing.proofs.slot.write_slot.Reads as write-slot
 use Rattle.mark_writing.proofs.slot.write_slot.Kinds as write-slot-kinds
 use Rattle.mark_writing.proofs.slot.+write_mark+write_slot.Lts-write_slot as write-slot-lts
-use Rattle.mark_tags.proofs.items.bit_of.Reads as bit-of-reads
-use Rattle.mark_writing.proofs.mark.delimiter_of.Reads as delimiter-of-reads
-use Rattle.mark_writing.proofs.mark.finish_mark.Reads as finish-mark-reads
-use Rattle.mark_tags.proofs.piece.write_piece.Reads as write-piece-reads
+use Rattle.mark_items.proofs.items.bit_of.Reads as bit-of-reads
+use Rattle.mark_pieces.proofs.mark.delimiter_of.Reads as delimiter-of-reads
+use Rattle.mark_pieces.proofs.mark.finish_mark.Reads as finish-mark-reads
+use Rattle.mark_pieces.proofs.piece.write_piece.Reads as write-piece-reads
 use Rattle.mark_writing.proofs.slot.content.Reads as content-reads
 use Rattle.mark_writing.proofs.slot.last_of.Reads as last-of-reads
 use Rattle.mark_writing.proofs.slot.next_byte.Reads as next-byte-reads

@@ -9,7 +9,7 @@ use Rattle.marks.proofs.pass.write_marks.Statement.{statement}
 use Rattle.marks.proofs.pass.write_marks.Tie as tie
 use Rattle.marks.proofs.pass.write_marks.Reads as reads
 use Rattle.marks.proofs.pass.write_marks.Lts as lts
-use Rattle.mark_tags.proofs.items.read_items.Reads as read-items-reads
+use Rattle.mark_items.proofs.items.read_items.Reads as read-items-reads
 use Rattle.mark_writing.proofs.slot.write_slot.Reads as write-slot-reads
 use Rattle.text.proofs.blank.number.Reads as number-reads
 

@@ -1,0 +1,5 @@
+pub mod Table
+pub mod Classes
+pub mod Pieces
+pub mod Wrapping
+pub mod Listing

@@ -1,0 +1,107 @@
+use borrow.Author.Needs.{needs}
+use native.Mathlib.Omega.{arith}
+use mathlib.Core.Path.{_≡_, refl, sym, ap, _∙_}
+use Prim.Native.Nat.{ℕ, suc, _+_, _-_, _≤_, _<_}
+use mathlib.Core.List.{List, [], _∷_, _++_}
+use lib.ListN.{length, getD}
+use lib.ListN.{take, drop}
+use Rattle.mark_pieces.proofs.Wrapping.{closes-step, closes-keeps, one-small}
+use Rattle.mark_pieces.specs.Spans.{raised}
+use Rattle.mark_pieces.proofs.mark.finish_mark.Statement.{statement}
+use Rattle.mark_pieces.proofs.mark.finish_mark.Tie as tie
+use Rattle.mark_pieces.proofs.mark.finish_mark.Reads as reads
+use Rattle.mark_pieces.proofs.mark.finish_mark.Lts as lts
+use Rattle.mark_pieces.proofs.mark.close_mark.Reads as close-mark-reads
+use Rattle.mark_pieces.proofs.mark.escape_brace.Reads as escape-brace-reads
+use Rattle.mark_pieces.proofs.mark.one_if.Reads as one-if-reads
+use Rattle.mark_pieces.proofs.mark.put_span.Reads as put-span-reads
+use Rattle.mark_pieces.proofs.mark.takes_braces.Reads as takes-braces-reads
+
+add-takes-braces : tie.Need-add-takes-braces
+add-takes-braces c = search needs
+
+takes-braces-requires : tie.Need-takes-braces-requires
+takes-braces-requires c κs = search needs
+
+add-escape-brace : tie.Need-add-escape-brace
+add-escape-brace c = search needs
+
+escape-brace-requires : tie.Need-escape-brace-requires
+escape-brace-requires c κs = search needs
+
+close-mark-requires : tie.Need-close-mark-requires
+close-mark-requires c κs = search needs
+
+one-if-requires : tie.Need-one-if-requires
+one-if-requires c κs = search needs
+
+put-span-requires : tie.Need-put-span-requires
+put-span-requires c κs =
+    let p = c .before .before .before .before .before .before .before .before .before .before .before .before .before .before .before .before .before .before .before .before .before .before .pre in
+    let b = one-small (c .before .before .before .before .before .before .before .before .before .before .before .before .before .before .before .before .before .takes-braces .result) (c .one-if .result) (c .one-if .ensures) in
+    let k₁ = c .before .before .before .before .before .before .before .before .before .before .before .before .before .before .escape-brace .kept in
+    let k₂ = c .before .before .before .before .before .before .before .close-mark .kept in
+    ((omega arith, (omega arith, omega arith)), (b, p .1 .1 .1))
+
+same-length : tie.Need-same-length
+same-length c = search needs
+
+same-length-2 : tie.Need-same-length-2
+same-length-2 c = search needs
+
+same-length-3 : tie.Need-same-length-3
+same-length-3 c = search needs
+
+returns : tie.Need-returns
+returns c =
+    let a = c .before .before .before .before .before .before .before .before .before .before .before .before .before .before .before .before .before .before .before .before .before .before .before .before .before .args in
+    let g₁ = c .before .before .before .before .before .before .before .before .before .before .before .before .before .before .before .before .before .escape-brace .ensures .grows in
+    let g₂ = c .before .before .before .before .before .before .before .before .before .before .close-mark .ensures .grows in
+    record {
+      form = c .before .before .before .before .before .before .before .before .before .before .before .before .before .before .before .before .before .before .before .before .takes-braces .ensures;
+      step = closes-step (c .before .before .before .before .before .before .before .before .before .before .before .before .before .before .before .before .before .before .before .before .takes-braces .result) (a .d) (c .before .before .before .before .before .before .before .before .before .before .before .before .before .before .before .before .before .escape-brace .ensures) (c .before .before .before .before .before .before .before .before .before .before .close-mark .ensures);
+      keeps = closes-keeps (c .before .before .before .before .before .before .before .before .before .before .before .before .before .before .before .before .before .before .before .before .takes-braces .result) (a .d) (c .before .before .before .before .before .before .before .before .before .before .before .before .before .before .before .before .before .escape-brace .ensures) (c .before .before .before .before .before .before .before .before .before .before .close-mark .ensures);
+      grows = omega arith;
+      spans = λ h r. c .before .before .put-span .ensures r ∙ ap (λ (by : ℕ). take (a .c) (a .spans .now) ++ (a .p ∷ c .before .before .before .before .before .before .before .before .before .before .close-mark .result .0 ∷ raised by (drop (a .c + 2) (take (a .e) (a .spans .now))))) (c .before .before .before .one-if .ensures);
+    }
+
+same-length-4 : tie.Need-same-length-4
+same-length-4 c = search needs
+
+same-length-5 : tie.Need-same-length-5
+same-length-5 c = search needs
+
+returns-2 : tie.Need-returns-2
+returns-2 c =
+    let a = c .before .before .before .before .before .before .before .before .before .before .before .before .before .before .before .before .before .before .before .before .args in
+    let g₁ = c .before .before .before .before .before .before .before .before .before .before .before .before .escape-brace .ensures .grows in
+    let g₂ = c .before .before .before .before .before .close-mark .ensures .grows in
+    let k₁ = c .before .before .before .before .before .before .before .before .before .before .before .before .escape-brace .kept in
+    let k₂ = c .before .before .before .before .before .close-mark .kept in
+    let z = c .if1 .left in
+    record {
+      form = c .before .before .before .before .before .before .before .before .before .before .before .before .before .before .before .takes-braces .ensures;
+      step = closes-step (c .before .before .before .before .before .before .before .before .before .before .before .before .before .before .before .takes-braces .result) (a .d) (c .before .before .before .before .before .before .before .before .before .before .before .before .escape-brace .ensures) (c .before .before .before .before .before .close-mark .ensures);
+      keeps = closes-keeps (c .before .before .before .before .before .before .before .before .before .before .before .before .before .before .before .takes-braces .result) (a .d) (c .before .before .before .before .before .before .before .before .before .before .before .before .escape-brace .ensures) (c .before .before .before .before .before .close-mark .ensures);
+      grows = omega arith;
+      spans = λ h r. absurd (omega arith);
+    }
+
+pub finish-mark-spec : {M : Type 1} → statement M
+finish-mark-spec =
+    tie.close
+    (tie.spec
+    add-takes-braces
+    takes-braces-requires
+    add-escape-brace
+    escape-brace-requires
+    close-mark-requires
+    one-if-requires
+    put-span-requires
+    same-length
+    same-length-2
+    same-length-3
+    returns
+    same-length-4
+    same-length-5
+    returns-2)

@@ -1,0 +1,44 @@
+use borrow.Author.Needs.{needs}
+use native.Mathlib.Omega.{arith}
+use mathlib.Core.Path.{_≡_, refl, sym, ap, _∙_}
+use Prim.Native.Nat.{ℕ, suc, _+_, _-_, _≤_, _<_}
+use mathlib.Core.List.{List, [], _∷_, _++_}
+use lib.ListN.{length, getD}
+use Rattle.mark_pieces.proofs.mark.takes_braces.Statement.{statement}
+use Rattle.mark_pieces.proofs.mark.takes_braces.Tie as tie
+use Rattle.mark_pieces.proofs.mark.takes_braces.Reads as reads
+use Rattle.mark_pieces.proofs.mark.takes_braces.Lts as lts
+use Rattle.mark_pieces.proofs.class.is_braced.Reads as is-braced-reads
+
+shared-slice-read-is-braced : tie.Need-shared-slice-read-is-braced
+shared-slice-read-is-braced c = search needs
+
+cast-is-braced : tie.Need-cast-is-braced
+cast-is-braced c = omega (arith, c .shared-slice-known2 .given (c .before .before .args .p))
+
+sub-is-braced : tie.Need-sub-is-braced
+sub-is-braced c = search needs
+
+shared-slice-read-is-braced-2 : tie.Need-shared-slice-read-is-braced-2
+shared-slice-read-is-braced-2 c = search needs
+
+cast-is-braced-2 : tie.Need-cast-is-braced-2
+cast-is-braced-2 c = omega (arith, c .shared-slice-known3 .given (c .before .before .before .args .end - 1))
+
+is-braced-requires : tie.Need-is-braced-requires
+is-braced-requires c κs = let x = c .shared-slice-known3 .given (c .before .before .before .args .p) in let y = c .shared-slice-known3 .given (c .before .before .before .args .end - 1) in omega arith
+
+returns : tie.Need-returns
+returns c = search needs
+
+pub takes-braces-spec : {M : Type 1} → statement M
+takes-braces-spec =
+    tie.close
+    (tie.spec
+    shared-slice-read-is-braced
+    cast-is-braced
+    sub-is-braced
+    shared-slice-read-is-braced-2
+    cast-is-braced-2
+    is-braced-requires
+    returns)

@@ -1,0 +1,74 @@
+use borrow.Author.Needs.{needs}
+use native.Mathlib.Omega.{arith}
+use mathlib.Core.Path.{_≡_, refl, sym, ap, _∙_}
+use Prim.Native.Nat.{ℕ, suc, _+_, _-_, _≤_, _<_}
+use mathlib.Core.List.{List, [], _∷_, _++_}
+use lib.ListN.{length, getD}
+use Rattle.mark_pieces.proofs.Pieces.{piece-by}
+use Rattle.mark_pieces.proofs.piece.write_piece.Statement.{statement}
+use Rattle.mark_pieces.proofs.piece.write_piece.Tie as tie
+use Rattle.mark_pieces.proofs.piece.write_piece.Reads as reads
+use Rattle.mark_pieces.proofs.piece.write_piece.Lts as lts
+use Rattle.mark_pieces.proofs.piece.is_even.Reads as is-even-reads
+use Rattle.mark_pieces.proofs.piece.is_touching.Reads as is-touching-reads
+use Rattle.mark_pieces.proofs.piece.put_backslash.Reads as put-backslash-reads
+use Rattle.text.proofs.write.copy.Reads as copy-reads
+
+sub-last : tie.Need-sub-last
+sub-last c = search needs
+
+is-even-requires : tie.Need-is-even-requires
+is-even-requires c κs = search needs
+
+shared-slice-read-is-touching : tie.Need-shared-slice-read-is-touching
+shared-slice-read-is-touching c = search needs
+
+is-touching-requires : tie.Need-is-touching-requires
+is-touching-requires c κs = search needs
+
+shared-slice-read-put-backslash : tie.Need-shared-slice-read-put-backslash
+shared-slice-read-put-backslash c = search needs
+
+put-backslash-requires : tie.Need-put-backslash-requires
+put-backslash-requires c κs = search needs
+
+copy-requires : tie.Need-copy-requires
+copy-requires c κs = search needs
+
+put-backslash-requires-2 : tie.Need-put-backslash-requires-2
+put-backslash-requires-2 c κs = search needs
+
+copy-requires-2 : tie.Need-copy-requires-2
+copy-requires-2 c κs =
+    let pre = c .before .before .before .before .before .before .before .before .before .before .before .before .before .before .before .before .before .before .before .before .before .before .before .before .before .before .before .before .before .before .before .before .pre in
+    search needs
+
+same-length : tie.Need-same-length
+same-length c = search needs
+
+same-length-2 : tie.Need-same-length-2
+same-length-2 c = search needs
+
+returns : tie.Need-returns
+returns c =
+    let a = c .before .before .before .before .before .before .before .before .before .before .before .before .before .before .before .before .before .before .before .before .before .before .before .before .before .before .before .before .before .before .before .before .before .before .before .before .before .args in
+    let pre = c .before .before .before .before .before .before .before .before .before .before .before .before .before .before .before .before .before .before .before .before .before .before .before .before .before .before .before .before .before .before .before .before .before .before .before .before .before .pre in
+    piece-by (a .src .now) (a .from .now) (a .a .0) (a .e .0 - 1) (a .e .0) (a .guarded) (a .touches) _ _ _ _ (omega arith) refl (omega arith) (omega arith) refl (c .before .before .before .before .before .before .before .before .before .before .before .before .before .before .before .before .before .before .before .before .before .before .before .before .before .before .before .before .before .before .before .is-even .ensures) (c .before .before .before .before .before .before .before .before .before .before .before .before .before .before .before .before .before .before .before .before .before .before .before .before .before .before .before .before .before .is-touching .ensures) refl
+    (c .before .before .before .before .before .before .before .before .before .before .before .before .before .before .before .before .before .before .before .before .before .before .before .before .before .put-backslash .ensures) (c .before .before .before .before .before .before .before .before .before .before .before .before .before .before .before .before .before .before .copy .ensures) (c .before .before .before .before .before .before .before .before .before .before .before .put-backslash2 .ensures) (c .before .before .before .before .copy2 .ensures)
+
+pub write-piece-spec : {M : Type 1} → statement M
+write-piece-spec =
+    tie.close
+    (tie.spec
+    sub-last
+    is-even-requires
+    shared-slice-read-is-touching
+    is-touching-requires
+    shared-slice-read-put-backslash
+    put-backslash-requires
+    copy-requires
+    put-backslash-requires-2
+    copy-requires-2
+    same-length
+    same-length-2
+    returns)
