@@ -8,7 +8,7 @@ ghost use Prim.Native.Nat.{_+_, _-_, _*_, _≤_, _<_};
 ghost use lib.ListN.{length, take, drop};
 ghost use Rattle.quote_lines.specs.Tags.{NextBracket};
 ghost use Rattle.quote_lines.specs.Lines.{bare, lineAfter, tags, same, place, nextAfter, lineAt};
-ghost use Rattle.quote_lines.specs.Tables.{wordsAt, WordsAt, TagAt, Table, Tabled, linesBehind, PastBackslashes};
+ghost use Rattle.quote_lines.specs.Tables.{wordsAt, WordsAt, TagAt, Table, lineIn, Tabled, linesBehind, PastBackslashes};
 
 // A place in the text, the place of the next `]`, the line there, and how many tags stand in the table.
 pub struct Reading {
@@ -100,7 +100,7 @@ fn line_behind(s: &[u8], a: usize, e: usize, line: usize) -> usize
 }
 
 // How many bytes the attribution of an opener of k bytes has.
-fn attribution_size(k: usize) -> usize
+pub fn attribution_size(k: usize) -> usize
     ensures { λ r. ⌜ r ≡ k - 8 ⌝ }
 {
     if k < 8 {
@@ -190,6 +190,20 @@ fn has_attribution(s: &[u8], numbers: &[u32], p: usize, attribution: &[u8], size
     same_bare(&s[a..e], attribution)
 }
 
+// The line of tag `next`, at most the last; 1 if there are no tags.
+fn line_at(numbers: &[u32], t: usize, count: usize, next: usize) -> u32
+    requires { ⌜ t + 4 * count ≤ length (now numbers) ⌝ }
+    ensures { λ r. ⌜ r ≡ lineIn (now (numbers .entry)) t count next ⌝ }
+{
+    if count == 0 {
+        return 1;
+    }
+    if next < count {
+        return numbers[t + 4 * next];
+    }
+    numbers[t + 4 * (count - 1)]
+}
+
 // The line of a quote with this attribution, searched from tag `next` on.
 pub fn line_of(
     s: &[u8],
@@ -213,17 +227,6 @@ pub fn line_of(
         }
         i += 1;
     }
-    if count == 0 {
-        return Found { line: 1, next };
-    }
-    if next < count {
-        return Found {
-            line: numbers[t + 4 * next],
-            next,
-        };
-    }
-    Found {
-        line: numbers[t + 4 * (count - 1)],
-        next,
-    }
+    let line = line_at(numbers, t, count, next);
+    Found { line, next }
 }
