@@ -1,14 +1,16 @@
 // The quote tags of the original text, and the line of a converted quote.
+use crate::mask::mask_all;
 use crate::tag::bracket_from;
 use crate::tag::opener_size;
 use text::PostAt;
 use text::scan::next_bracket;
+use text::source::set_source;
 ghost use mathlib.Core.Path.{_≡_};
 ghost use Prim.Native.Nat.{_+_, _-_, _*_, _≤_, _<_};
 ghost use lib.ListN.{length, take, drop};
 ghost use Rattle.quote_lines.specs.Tags.{NextBracket};
 ghost use Rattle.quote_lines.specs.Lines.{bare, lineAfter, tags, same, place, nextAfter, lineAt};
-ghost use Rattle.quote_lines.specs.Tables.{wordsAt, WordsAt, TagAt, Table, lineIn, Tabled, linesBehind, PastBackslashes};
+ghost use Rattle.quote_lines.specs.Tables.{wordsAt, WordsAt, TagAt, Table, LinesRead, lineIn, Tabled, linesBehind, PastBackslashes};
 
 // A place in the text, the place of the next `]`, the line there, and how many tags stand in the table.
 pub struct Reading {
@@ -174,6 +176,23 @@ pub fn read_tags(s: &[u8], numbers: &mut [u32], t: usize) -> usize
         i = at.0;
     }
     st.count
+}
+
+// How many bytes a masked text has, and how many tags its table.
+pub struct Lines {
+    pub size: usize,
+    pub count: usize,
+}
+
+// Masks a text at the front of a slice, and writes the table of its quote tags at the front of the numbers.
+pub fn read_lines(text: &[u8], work: &mut [u8], numbers: &mut [u32]) -> Lines
+    requires { ⌜ (length (now text) ≤ 262144) × ((length (now text) ≤ length (now work)) × (length (now text) ≤ length (now numbers))) ⌝ }
+    ensures { λ r. ⌜ LinesRead (now (text .entry)) (now (work .exit)) (now (numbers .exit)) (r .size) (r .count) ⌝ }
+{
+    set_source(text, work);
+    let size = mask_all(work, text.len());
+    let count = read_tags(&work[..size], numbers, 0);
+    Lines { size, count }
 }
 
 // Whether the tag at p has an attribution that is the same without backslashes; `size` is how many bytes that has.
