@@ -72,15 +72,15 @@ cells-same bs ns bs' ns' p q =
     let y = cells-le bs ns (length (cells bs' ns')) (omega arith) (omega arith) in
     omega arith
 
--- past the end nothing fits
-pub caption-past : (v : List Cell) (at : ℕ) (t : List Cell) → length v < at → Appends v at v at t
-caption-past v at t far = record {
+-- what does not fit
+pub past-end : (v : List Cell) (at far : ℕ) (t : List Cell) → length v < at + length t → length v < far → at ≤ far → Appends v at v far t
+past-end v at far t short lt up = record {
   step = λ s h.
       let l = length-append s t in
       let no-room : length (s ++ t) ≤ length v → ⊥ = λ le. (let n = h .end (omega arith) in omega arith) in
-      record { end = λ le. absurd (no-room le); text = λ le. absurd (no-room le); full = λ _. far };
+      record { end = λ le. absurd (no-room le); text = λ le. absurd (no-room le); full = λ _. lt };
   keeps = refl;
-  grows = omega arith;
+  grows = up;
 }
 
 module _ {v v₁ : List Cell} {at z : ℕ} (w : List ℕ) (a : Appends v at v₁ z (written w)) (fit : at ≤ length v) (size : length v₁ ≡ length v) where

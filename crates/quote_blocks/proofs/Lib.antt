@@ -2,4 +2,3 @@ pub mod QuotesSplit
 pub mod QuotesFit
 pub mod Reading
 pub mod Blocks
-pub mod Passing

@@ -120,6 +120,11 @@ pub record State : Type 0 where
 abbrev pub start : State
 start = record { now = []; opened = [] }
 
+-- the contents that open quotes stand in, outermost first
+unfoldable pub opening : List Quote → List Cell
+opening [] = []
+opening (q ∷ qs) = opening qs ++ q .outer
+
 -- the number of bytes of all open contents
 unfoldable pub held : List Quote → ℕ
 held [] = 0

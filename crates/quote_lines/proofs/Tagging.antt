@@ -84,7 +84,7 @@ any-none s = refl
 -- ---- the attribution, by place
 
 -- a part of the first e elements
-part-before : (a n e : ℕ) (xs : List ℕ) → a + n ≤ e → take n (drop a (take e xs)) ≡ take n (drop a xs)
+pub part-before : (a n e : ℕ) (xs : List ℕ) → a + n ≤ e → take n (drop a (take e xs)) ≡ take n (drop a xs)
 part-before zero n e xs h = take-take n e xs (omega arith)
 part-before (suc a) n zero xs h = absurd (omega arith)
 part-before (suc a) n (suc e) [] h = refl

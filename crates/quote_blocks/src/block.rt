@@ -1,6 +1,6 @@
 // The block of a quote: its content, and the caption of its attribution.
-use attribution::caption::put_caption;
 use crate::content::put_quoted;
+use attribution::caption::put_caption;
 use text::PostAt;
 use text::TextAt;
 use text::write::put_text;
@@ -9,12 +9,18 @@ ghost use Prim.Native.Nat.{_≤_};
 ghost use lib.ListN.{length};
 ghost use Rattle.text.specs.Cells.{cells, part};
 ghost use Rattle.text.specs.Writes.{Appends};
-ghost use Rattle.attribution.specs.Attribution.{caption};
-ghost use Rattle.attribution.specs.Captions.{nameTexts};
-ghost use Rattle.quotes.specs.Quotes.{captionLine, quoteBlock};
+ghost use Rattle.attribution_parts.specs.Attribution.{caption};
+ghost use Rattle.attribution_losses.specs.Captions.{nameTexts};
+ghost use Rattle.quote_blocks.specs.Quotes.{captionLine, quoteBlock};
 
 // Appends LF `^ ` caption, if the attribution has one.
-fn put_caption_line<'a>(attribution: &'a [u8], joined: &'a [u8], buf: &mut [u8], nums: &mut [u32], at: TextAt) -> TextAt
+fn put_caption_line<'a>(
+    attribution: &'a [u8],
+    joined: &'a [u8],
+    buf: &mut [u8],
+    nums: &mut [u32],
+    at: TextAt,
+) -> TextAt
     requires { ⌜ (length (now attribution) ≤ 1073741824) × (now joined ≡ nameTexts (now attribution)) ⌝ }
     ensures { λ r. ⌜ Appends (cells (now (buf .entry)) (now (nums .entry))) (at .0) (cells (now (buf .exit)) (now (nums .exit))) (r .0) (captionLine (caption (now (attribution .entry)))) ⌝ }
 {
@@ -35,13 +41,13 @@ fn put_caption_line<'a>(attribution: &'a [u8], joined: &'a [u8], buf: &mut [u8],
 }
 
 // Writes the block of the quote with the content from a up to e; `joined` are the joined texts of its attribution, where they make the name.
-pub fn quote_block(
+pub fn quote_block<'a>(
     src: &[u8],
     from: &[u32],
     a: PostAt,
     e: PostAt,
-    attribution: &[u8],
-    joined: &[u8],
+    attribution: &'a [u8],
+    joined: &'a [u8],
     buf: &mut [u8],
     nums: &mut [u32],
 ) -> TextAt

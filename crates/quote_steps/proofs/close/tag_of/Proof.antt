@@ -4,10 +4,10 @@ use mathlib.Core.Path.{_≡_, refl, sym, ap, _∙_}
 use Prim.Native.Nat.{ℕ, suc, _+_, _-_, _≤_, _<_}
 use mathlib.Core.List.{List, [], _∷_, _++_}
 use lib.ListN.{length, getD}
-use Rattle.quotes.proofs.pass.tag_of.Statement.{statement}
-use Rattle.quotes.proofs.pass.tag_of.Tie as tie
-use Rattle.quotes.proofs.pass.tag_of.Reads as reads
-use Rattle.quotes.proofs.pass.tag_of.Lts as lts
+use Rattle.quote_steps.proofs.close.tag_of.Statement.{statement}
+use Rattle.quote_steps.proofs.close.tag_of.Tie as tie
+use Rattle.quote_steps.proofs.close.tag_of.Reads as reads
+use Rattle.quote_steps.proofs.close.tag_of.Lts as lts
 
 mul-t : tie.Need-mul-t
 mul-t c = search needs

@@ -16,12 +16,23 @@ use Rattle.text.specs.Writes.{Holds, Appends, AppendsIn}
 use Rattle.text.proofs.Writing.{holds-fits, cells-le, cells-short, cells-at, part-cons, part-end}
 use Rattle.text.proofs.Areas.{area-length}
 use Rattle.text.proofs.Clearing.{cells-bytes}
 use Rattle.quote_blocks.proofs.Reading.{read-opener, read-closer, read-text, read-end}
 use Rattle.quote_lines.specs.Tags.{attributionOf, openerSize, closerSize}
-use Rattle.quote_blocks.specs.Quotes.{Token, text, opens, closes, tokens, Quote, State, start, held, total, close, closed, step, finish, run, quotes, finishNeed, runNeed, quotesNeed, quoteBlock, tooDeepFrom, tooDeep}
-use Rattle.quote_blocks.specs.Passes.{opening, Stood, Stands, Closes, ClosesIn, Takes, TakesOne, Leaves, ClosesLast, ClosesAll, Reached, Runs}
+use Rattle.quote_blocks.specs.Quotes.{Token, text, opens, closes, tokens, Quote, State, start, opening, held, total, close, closed, step, finish, run, quotes, finishNeed, runNeed, quotesNeed, quoteBlock, tooDeepFrom, tooDeep}
+use Rattle.quote_steps.specs.Passes.{Stood, Stands, Closes, ClosesIn, Takes, TakesOne, Leaves, ClosesLast, ClosesAll, Reached, Runs}
 
 -- ---- an area
+
+cells-taken : (k : ℕ) (bs ns : List ℕ) → cells (take k bs) (take k ns) ≡ take k (cells bs ns)
+unfolding cells
+cells-taken zero bs ns = refl
+cells-taken (suc k) [] ns = refl
+cells-taken (suc k) (b ∷ bs) [] = refl
+cells-taken (suc k) (b ∷ bs) (n ∷ ns) = ap (λ (l : List Cell). cell b n ∷ l) (cells-taken k bs ns)
+
+-- it goes by what stands in it
+pub cells-front : (k : ℕ) (bs bs' ns : List ℕ) → take k bs' ≡ take k bs → take k (cells bs' ns) ≡ take k (cells bs ns)
+cells-front k bs bs' ns e = sym (cells-taken k bs' ns) ∙ ap (λ (l : List ℕ). cells l (take k ns)) e ∙ cells-taken k bs ns
 
 module _ (v : List Cell) (to : ℕ) (p c : List Cell) (h : Holds v to (p ++ c)) (le : to ≤ length v) where
   fits : length (p ++ c) ≤ length v
@@ -80,9 +91,9 @@ module _ (v : List Cell) (begin to : ℕ) (w₀ w : List Cell) (n : ℕ) (le : t
     keeps = refl;
   }
 
--- the same of slices
-module _ (bs ns os ps os' ps' : List ℕ) (begin to end n : ℕ) (block : List Cell → List Cell) (a : Appends (cells os ps) 0 (cells os' ps') n (block (part begin to (cells bs ns))))
-    (ht : to ≤ end) (hb : end ≤ length bs) (hn : end ≤ length ns) (ho : length os' ≤ length ps') where
+-- the same of slices; behind the area the bytes may have changed
+module _ (bs bs₁ ns os ps os' ps' : List ℕ) (begin to end n : ℕ) (block : List Cell → List Cell) (a : Appends (cells os ps) 0 (cells os' ps') n (block (part begin to (cells bs ns))))
+    (same : take end bs₁ ≡ take end bs) (ht : to ≤ end) (hb : end ≤ length bs) (hn : end ≤ length ns) (ho : length os' ≤ length ps') where
   out-length : length (cells os' ps') ≡ length os'
   out-length = let x = cells-short os' ps' in let y = cells-le os' ps' (length os') (omega arith) ho in omega arith
 
@@ -90,15 +101,19 @@ module _ (bs ns os ps os' ps' : List ℕ) (begin to end n : ℕ) (block : List C
   unfolding part
   from-area = rw (take-take to end (cells bs ns) ht) a
 
-  pub block-closes : {bs' ns' : List ℕ} {r : ℕ} → n ≤ length os' → AppendsIn bs ns end begin bs' ns' r (part 0 n (cells os' ps')) → ClosesIn bs ns end begin to bs' ns' r block
-  block-closes fit b =
-      let l = out-length in let k = area-length bs ns end hb hn in
-      record { closes = closes-done (take end (cells bs ns)) begin to (cells os ps) (cells os' ps') n (omega arith) block from-area _ _ (omega arith) (b .appends) }
+  still : take end (cells bs₁ ns) ≡ take end (cells bs ns)
+  still = cells-front end bs bs₁ ns same
 
-  pub block-closes-full : (r : ℕ) → length os' < n → end ≤ begin + length os' → end < r → ClosesIn bs ns end begin to bs ns r block
+  pub block-closes : {bs' ns' : List ℕ} {r : ℕ} → n ≤ length os' → AppendsIn bs₁ ns end begin bs' ns' r (part 0 n (cells os' ps')) → ClosesIn bs ns end begin to bs' ns' r block
+  block-closes {bs'} {ns'} {r} fit b =
+      let l = out-length in let k = area-length bs ns end hb hn in
+      let q : Appends (take end (cells bs ns)) begin (take end (cells bs' ns')) r (part 0 n (cells os' ps')) = rw (sym still) (b .appends) in
+      record { closes = closes-done (take end (cells bs ns)) begin to (cells os ps) (cells os' ps') n (omega arith) block from-area _ _ (omega arith) q }
+
+  pub block-closes-full : (r : ℕ) → length os' < n → end ≤ begin + length os' → end < r → ClosesIn bs ns end begin to bs₁ ns r block
   block-closes-full r lt room far =
       let l = out-length in let k = area-length bs ns end hb hn in
-      record { closes = closes-full (take end (cells bs ns)) begin to (cells os ps) (cells os' ps') n (omega arith) block from-area r (omega arith) (omega arith) (omega arith) }
+      record { closes = rw still (closes-full (take end (cells bs ns)) begin to (cells os ps) (cells os' ps') n (omega arith) block from-area r (omega arith) (omega arith) (omega arith)) }
 
 -- ---- where the open quotes stand
 

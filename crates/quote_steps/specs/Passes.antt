@@ -1,6 +1,6 @@
 -- How the quote pass stands in work memory. The text x is the first e cells of a pair of slices, and the open contents stand in them one
 -- behind another from `base` up to a place `to`, in an area that ends at `end`; P is what stands before `base`.
---   opening qs            the contents that open quotes stand in, outermost first
+--   Lent base end ..      how long the lent slices are
 --   Stood .. qs           where the content of each open quote begins, and where its opener stands in the text
 --   Stands .. s           the area holds what the state s of the machine has
 --   Closes ..             the last content of an area has been replaced by another text
@@ -13,11 +13,13 @@ use lib.ListN.{length, take, drop, getD}
 use Rattle.text.specs.Cells.{Cell, cells, bytes, part}
 use Rattle.text.specs.Writes.{Holds}
 use Rattle.quote_lines.specs.Tags.{attributionOf}
-use Rattle.quote_blocks.specs.Quotes.{Token, tokens, Quote, State, close, step, finish, finishNeed, quotes, quotesNeed}
+use Rattle.quote_blocks.specs.Quotes.{Token, tokens, Quote, State, opening, close, step, finish, finishNeed, quotes, quotesNeed}
 
-unfoldable pub opening : List Quote → List Cell
-opening [] = []
-opening (q ∷ qs) = opening qs ++ q .outer
+-- the area is no longer than the output, and behind it there is room for as much again: for the joined texts of an attribution; places fit
+-- in 32 bits
+abbrev pub Lent : (base end : ℕ) (work numbers out origins : List ℕ) → Type 0
+Lent base end work numbers out origins =
+    ((end + length out ≤ length work) × ((end ≤ length numbers) × (end ≤ 268435456))) × ((length out ≤ length origins) × (end ≤ base + length out))
 
 -- s: the text's bytes
 unfoldable pub Stood : (s : List ℕ) (base : ℕ) (starts tags : List ℕ) → List Quote → Type 0

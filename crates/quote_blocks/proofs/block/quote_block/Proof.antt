@@ -1,0 +1,47 @@
+use borrow.Author.Needs.{needs}
+use native.Mathlib.Omega.{arith}
+use mathlib.Core.Path.{_≡_, refl, sym, ap, _∙_}
+use Prim.Native.Nat.{ℕ, suc, _+_, _-_, _≤_, _<_}
+use mathlib.Core.List.{List, [], _∷_, _++_}
+use lib.ListN.{length, getD}
+use Rattle.quote_blocks.proofs.Blocks.{block-by}
+use Rattle.quote_blocks.proofs.block.quote_block.Statement.{statement}
+use Rattle.quote_blocks.proofs.block.quote_block.Tie as tie
+use Rattle.quote_blocks.proofs.block.quote_block.Reads as reads
+use Rattle.quote_blocks.proofs.block.quote_block.Lts as lts
+use Rattle.quote_blocks.proofs.content.put_quoted.Reads as put-quoted-reads
+use Rattle.quote_blocks.proofs.block.put_caption_line.Reads as put-caption-line-reads
+use Rattle.text.proofs.write.put_text.Reads as put-text-reads
+
+put-quoted-requires : tie.Need-put-quoted-requires
+put-quoted-requires c κs = search needs
+
+put-caption-line-requires : tie.Need-put-caption-line-requires
+put-caption-line-requires c κs = search needs
+
+slice-aggregate-put-text : tie.Need-slice-aggregate-put-text
+slice-aggregate-put-text c = search needs
+
+put-text-requires : tie.Need-put-text-requires
+put-text-requires c κs = search needs
+
+same-length : tie.Need-same-length
+same-length c = search needs
+
+same-length-2 : tie.Need-same-length-2
+same-length-2 c = search needs
+
+returns : tie.Need-returns
+returns c = block-by _ _ (c .before .before .before .before .before .before .before .before .before .before .before .before .before .before .before .before .before .before .before .put-quoted .ensures) (c .before .before .before .before .before .before .before .before .before .before .before .before .put-caption-line .ensures) (c .before .before .before .before .put-text .ensures)
+
+pub quote-block-spec : {M : Type 1} → statement M
+quote-block-spec =
+    tie.close
+    (tie.spec
+    put-quoted-requires
+    put-caption-line-requires
+    slice-aggregate-put-text
+    put-text-requires
+    same-length
+    same-length-2
+    returns)

@@ -1,0 +1,3 @@
+// The quote pass in work memory.
+pub mod close;
+pub mod pass;
