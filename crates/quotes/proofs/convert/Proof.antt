@@ -18,19 +18,24 @@ use Rattle.quotes.proofs.refuse.Reads as refuse-reads
 use Rattle.quotes.proofs.write_quotes.Reads as write-quotes-reads
 
 is-too-deep-requires : tie.Need-is-too-deep-requires
-is-too-deep-requires c κs = search needs
+is-too-deep-requires c κs =
+    tt
 
 list-own-requires : tie.Need-list-own-requires
-list-own-requires c κs = search needs
+list-own-requires c κs =
+    let pre = c .before .before .before .before .before .before .before .before .before .before .before .before .pre in
+    (pre .0 .0, (omega (arith, pre .1 .0), omega (arith, pre .1 .1)))
 
 refusal-of-requires : tie.Need-refusal-of-requires
-refusal-of-requires c κs = search needs
+refusal-of-requires c κs =
+    tt
 
 enum-known-refused : tie.Need-enum-known-refused
 enum-known-refused c = search needs
 
 refuse-requires : tie.Need-refuse-requires
-refuse-requires c κs = search needs
+refuse-requires c κs =
+    tt
 
 enum-told : tie.Need-enum-told
 enum-told c = search needs

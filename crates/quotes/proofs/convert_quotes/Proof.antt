@@ -16,13 +16,15 @@ use Rattle.quotes.proofs.refuse.Reads as refuse-reads
 use Rattle.text.proofs.lent.check.Reads as check-reads
 
 check-requires : tie.Need-check-requires
-check-requires c κs = search needs
+check-requires c κs =
+    tt
 
 enum-known-checked : tie.Need-enum-known-checked
 enum-known-checked c = search needs
 
 refuse-requires : tie.Need-refuse-requires
-refuse-requires c κs = search needs
+refuse-requires c κs =
+    tt
 
 enum-told : tie.Need-enum-told
 enum-told c = search needs

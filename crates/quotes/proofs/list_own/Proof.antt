@@ -13,7 +13,8 @@ use Rattle.quote_lines.proofs.search.read_lines.Reads as read-lines-reads
 use Rattle.quotes.proofs.loss.list_losses.Reads as list-losses-reads
 
 read-lines-requires : tie.Need-read-lines-requires
-read-lines-requires c κs = search needs
+read-lines-requires c κs =
+    c .before .before .before .before .before .before .before .pre
 
 slice-reshare-prefix-list-losses : tie.Need-slice-reshare-prefix-list-losses
 slice-reshare-prefix-list-losses c = search needs

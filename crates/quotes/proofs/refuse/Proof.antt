@@ -14,25 +14,32 @@ use Rattle.text.proofs.zero.zero32.Reads as zero32-reads
 use Rattle.text.proofs.zero.zero8.Reads as zero8-reads
 
 lay-nothing-requires : tie.Need-lay-nothing-requires
-lay-nothing-requires c κs = search needs
+lay-nothing-requires c κs =
+    tt
 
 zero32-requires : tie.Need-zero32-requires
-zero32-requires c κs = search needs
+zero32-requires c κs =
+    tt
 
 zero8-requires : tie.Need-zero8-requires
-zero8-requires c κs = search needs
+zero8-requires c κs =
+    tt
 
 same-length : tie.Need-same-length
-same-length c = search needs
+same-length c =
+    c .before .before .before .before .before .before .before .before .before .before .before .before .lay-nothing .kept .0
 
 same-length-2 : tie.Need-same-length-2
-same-length-2 c = search needs
+same-length-2 c =
+    c .before .before .before .before .before .before .before .before .before .before .before .before .lay-nothing .kept .1 .0
 
 same-length-3 : tie.Need-same-length-3
-same-length-3 c = search needs
+same-length-3 c =
+    c .before .before .before .before .before .before .zero32 .kept .0
 
 same-length-4 : tie.Need-same-length-4
-same-length-4 c = search needs
+same-length-4 c =
+    c .before .before .zero8 .kept .0
 
 returns : tie.Need-returns
 returns c =

@@ -20,10 +20,12 @@ add-end : tie.Need-add-end
 add-end c = search needs
 
 number-requires : tie.Need-number-requires
-number-requires c κs = search needs
+number-requires c κs =
+    (c .before .before .before .before .before .before .before .before .pre .0 .0, omega (arith, c .before .before .before .before .before .before .before .before .pre .1 .0 .1))
 
 set-source-requires : tie.Need-set-source-requires
-set-source-requires c κs = search needs
+set-source-requires c κs =
+    omega (arith, c .before .before .before .before .before .before .before .before .before .before .before .before .pre .1 .0 .0)
 
 quote-pass-requires : tie.Need-quote-pass-requires
 quote-pass-requires c κs =
@@ -33,7 +35,8 @@ quote-pass-requires c κs =
     (((omega arith, omega arith), ((omega (arith, pre .1 .0 .0, lw), (omega (arith, pre .1 .0 .1, ln), omega (arith, pre .0))), (pre .0 .1 .1, omega arith))), ap tooDeep (source-taken (c .before .before .before .before .before .before .before .before .before .before .before .before .before .before .before .before .before .before .before .args .text .now) _ _ _ refl (c .before .before .before .before .before .before .set-source .ensures) (c .before .before .before .before .before .before .before .before .before .before .number .ensures)) ∙ pre .1 .1 .0)
 
 refuse-requires : tie.Need-refuse-requires
-refuse-requires c κs = search needs
+refuse-requires c κs =
+    tt
 
 same-length : tie.Need-same-length
 same-length c =
