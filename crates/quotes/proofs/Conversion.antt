@@ -5,7 +5,7 @@ use mathlib.Core.List.{List, []}
 use Prim.Native.Nat.{ℕ, _+_, _-_, _*_, _/_, _≤_, _<_}
 use native.Mathlib.Omega.{arith}
 use native.Mathlib.Decide.{decLe}
-use lib.ListN.{length, take, drop}
+use lib.ListN.{length, take, drop, length-map}
 use lib.Seq.{take-take}
 use lib.Dec.{ltb}
 use borrow.Author.Tests.{lt-ltb, le-ltb, ltb-false}
@@ -15,7 +15,6 @@ use Rattle.text.specs.declared.lent.Refusal.{Refusal}
 use Rattle.text.specs.declared.lent.Refusal.the-variants.{TooDeep, NoSpace, TooManyLosses, LossBytesShort}
 use Rattle.text.specs.declared.lent.Checked.{Checked}
 use Rattle.text.specs.declared.lent.Checked.the-variants as C
-use Rattle.text.proofs.Copying.{bytes-cellsOf}
 use Rattle.text.proofs.Clearing.{laid-cleared}
 use Rattle.text.proofs.Sources.{cells-taken, source-front}
 use Rattle.attribution_parts.specs.Attribution.{caption}
@@ -31,30 +30,26 @@ use Rattle.quotes.specs.Calls.{limited, spaced, answerBy, converted, Fil
 
 -- ---- losses
 
--- what has been listed, where all of it fits
-pub listed-there : (text rs bs rs' bs' : List ℕ) (losses words : ℕ) → ListsLosses text (tags 1 0 (visible text)) rs bs rs' bs' losses words
-    → 5 * losses ≤ length rs → words ≤ length bs → Listed text rs' bs' losses words
-unfolding lossRecords linesOf
-listed-there text rs bs rs' bs' losses words w h g =
-    let x = cellsOf text in
-    let e = bytes-cellsOf text in
-    let p = w .records x e in
-    let q = w .words x e in
-    record {
-      count = w .count x e;
-      size = omega (arith, q .end);
-      records-long = omega (arith, p .end);
-      records-there = p .text h;
-      words-there = q .text g;
-      few = w .few;
-    }
+module _ (original s rs bs rs' bs' : List ℕ) (losses words : ℕ) (w : ListsLosses s (tags 1 0 (visible original)) rs bs rs' bs' losses words) (x : List Cell) (e : bytes x ≡ s) where
+  pub listed-counts : (losses ≡ length (quoteLosses x)) × (words ≡ length (lossBytes x))
+  listed-counts = let q = w .words x e .end in (w .count x e, omega (arith, q))
 
-pub listed-counts : (text rs bs rs' bs' : List ℕ) (losses words : ℕ) → ListsLosses text (tags 1 0 (visible text)) rs bs rs' bs' losses words
-    → (losses ≡ length (quoteLosses (cellsOf text))) × (words ≡ length (lossBytes (cellsOf text)))
-listed-counts text rs bs rs' bs' losses words w =
-    let e = bytes-cellsOf text in
-    let q = w .words (cellsOf text) e .end in
-    (w .count (cellsOf text) e, omega (arith, q))
+  -- what has been listed, where all of it fits
+  pub listed-there : 5 * losses ≤ length rs → words ≤ length bs → Listed original x rs' bs' losses words
+  unfolding lossRecords linesOf
+  listed-there h g =
+      let p = w .records x e in
+      let q = w .words x e in
+      let n : length (bytes x) ≡ length x = length-map x (λ (c : Cell). c .byte) in
+      let m : length (bytes x) ≡ length s = ap length e in
+      record {
+        count = w .count x e;
+        size = omega (arith, q .end);
+        records-long = omega (arith, p .end);
+        records-there = p .text h;
+        words-there = q .text g;
+        few = omega (arith, w .few);
+      }
 
 -- ---- which refusal
 
@@ -109,7 +104,7 @@ module _ (text : List ℕ) (y v : List Cell) (m n end r : ℕ) (z : y ≡ cellsO
         let over : m < quotesNeed caption (cellsOf text) = elim (decLe (quotesNeed caption y) m) [ yes h ↦ absurd (let w = p .fits (omega arith) .0 in omega arith) | no h ↦ omega arith ] in
         rw g (record { answer = rw (lt-ltb m (quotesNeed caption (cellsOf text)) over); filled = f })
 
-    pub written-done : (rs bs : List ℕ) (losses size : ℕ) → r ≤ end → Listed text rs bs losses size → length rs ≡ j → length bs ≡ b
+    pub written-done : (rs bs : List ℕ) (losses size : ℕ) → r ≤ end → Listed text (cellsOf text) rs bs losses size → length rs ≡ j → length bs ≡ b
         → l ≡ Done (r - n) losses size → LaidOut (part n r v) m k out plain → records ≡ cleared (5 * losses) rs → words ≡ cleared size bs
         → Answers text m k j b (spaced (cellsOf text) m) l out plain records words
     unfolding spaced part

@@ -14,10 +14,7 @@ use Rattle.quote_blocks.specs.Quotes.{quotes, quotesNeed, tooDeep, takenQuotes,
 use Rattle.quote_lines.specs.Masks.{visible, computes as masksCompute}
 use Rattle.quote_lines.specs.Lines.{linesOf, computes as searchComputes}
 use Rattle.quotes.specs.Losses.{lossRecords, lossBytes, computes as lossesCompute}
-use Rattle.quotes.specs.Calls.{converted, computes as callsCompute}
-use Rattle.quotes.specs.declared.Quoted.{Quoted}
-use Rattle.quotes.specs.declared.Quoted.the-variants.{Done, Refused}
-use Rattle.text.specs.declared.lent.Refusal.the-variants.{TooDeep, NoSpace, TooManyLosses, LossBytesShort}
+use Rattle.quotes.specs.Calls.{converted, numberOfAnswer, countsOfAnswer, computes as callsCompute}
 use Rattle.day.specs.Day.{computes as dayComputes}
 use Rattle.attribution_parts.specs.Parts.{computes as partsCompute}
 use Rattle.attribution_parts.specs.Attribution.{caption as attributionCaption, computes as attributionComputes}
@@ -210,27 +207,30 @@ moved-records = refl
 
 -- ---- answers: an output of m bytes, j record numbers, b loss bytes
 
-abbrev Answered : (x : List ℕ) (m j b : ℕ) → Quoted → Type 0
-Answered x m j b r = converted (cellsOf x) m j b ≡ r
+abbrev Refuses : (x : List ℕ) (m j b number : ℕ) → Type 0
+Refuses x m j b number = numberOfAnswer (converted (cellsOf x) m j b) ≡ number
 
 -- 65 openers are refusal 5, whatever is lent
-deep-first : Answered (repeat 65 (ascii "[quote=a=1]")) 0 0 0 (Refused TooDeep)
+deep-first : Refuses (repeat 65 (ascii "[quote=a=1]")) 0 0 0 5
 unfolding repeat asciiComputes blanksCompute cellsCompute tagsCompute quotesCompute callsCompute
 deep-first = refl
 
+lossy : List ℕ
+lossy = ascii "[quote=rank=1]x"
+
 -- then 7, at one record number short; then 8, at one byte short; then 6, at one byte below the need
-records-next : Answered (ascii "[quote=rank=1]x") 0 4 0 (Refused TooManyLosses)
-unfolding asciiComputes blanksCompute cellsCompute linesCompute tagsCompute quotesCompute masksCompute searchComputes lossesCompute lossWords partsCompute attributionComputes dayComputes callsCompute
+records-next : Refuses lossy 0 4 0 7
+unfolding lossy asciiComputes blanksCompute cellsCompute linesCompute tagsCompute quotesCompute lossesCompute lossWords partsCompute attributionComputes dayComputes callsCompute
 records-next = refl
 
-bytes-next : Answered (ascii "[quote=rank=1]x") 0 5 3 (Refused LossBytesShort)
-unfolding asciiComputes blanksCompute cellsCompute linesCompute tagsCompute quotesCompute masksCompute searchComputes lossesCompute lossWords partsCompute attributionComputes dayComputes callsCompute
+bytes-next : Refuses lossy 0 5 3 8
+unfolding lossy asciiComputes blanksCompute cellsCompute linesCompute tagsCompute quotesCompute lossesCompute lossWords partsCompute attributionComputes dayComputes callsCompute
 bytes-next = refl
 
-space-last : Answered (ascii "[quote=rank=1]x") 6 5 4 (Refused NoSpace)
-unfolding asciiComputes blanksCompute cellsCompute linesCompute tagsCompute quotesCompute masksCompute searchComputes lossesCompute lossWords partsCompute attributionComputes dayComputes callsCompute
+space-last : Refuses lossy 6 5 4 6
+unfolding lossy asciiComputes blanksCompute cellsCompute linesCompute tagsCompute quotesCompute lossesCompute lossWords partsCompute attributionComputes dayComputes callsCompute
 space-last = refl
 
-all-fits : Answered (ascii "[quote=rank=1]x") 7 5 4 (Done 7 1 4)
-unfolding asciiComputes blanksCompute cellsCompute linesCompute tagsCompute quotesCompute masksCompute searchComputes lossesCompute lossWords partsCompute attributionComputes dayComputes callsCompute
+all-fits : countsOfAnswer (converted (cellsOf lossy) 7 5 4) ≡ 7 ∷ 1 ∷ 4 ∷ []
+unfolding lossy asciiComputes blanksCompute cellsCompute linesCompute tagsCompute quotesCompute lossesCompute lossWords partsCompute attributionComputes dayComputes callsCompute
 all-fits = refl

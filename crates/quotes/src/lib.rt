@@ -124,7 +124,7 @@ fn write_quotes(
     records: &mut [u32],
     loss_bytes: &mut [u8],
 ) -> Quoted
-    requires { ⌜ ((length (now text) ≤ 262144) × ((length (now out) ≤ 16777216) × (length (now out) ≤ length (now origins)))) × (((length (now text) + 3 * length (now out) ≤ length (now work)) × (8 * length (now text) + 3 * length (now out) + 64 ≤ length (now numbers))) × ((tooDeep (cellsOf (now text)) ≡ false) × Listed (now text) (now records) (now «loss_bytes») (losses .losses) (losses .bytes))) ⌝ }
+    requires { ⌜ ((length (now text) ≤ 262144) × ((length (now out) ≤ 16777216) × (length (now out) ≤ length (now origins)))) × (((length (now text) + 3 * length (now out) ≤ length (now work)) × (8 * length (now text) + 3 * length (now out) + 64 ≤ length (now numbers))) × ((tooDeep (cellsOf (now text)) ≡ false) × Listed (now text) (cellsOf (now text)) (now records) (now «loss_bytes») (losses .losses) (losses .bytes))) ⌝ }
     ensures { λ r. ⌜ Answers (now (text .entry)) (length (now (out .entry))) (length (now (origins .entry))) (length (now (records .entry))) (length (now («loss_bytes» .entry))) (spaced (cellsOf (now (text .entry))) (length (now (out .entry)))) r (now (out .exit)) (now (origins .exit)) (now (records .exit)) (now («loss_bytes» .exit)) ⌝ }
 {
     let n = text.len();
@@ -164,6 +164,7 @@ fn convert(
 {
     let deep = is_too_deep(text);
     let c = list_own(text, work, numbers, records, loss_bytes);
+    // a record takes five numbers
     let many = records.len() / 5 < c.losses;
     let long = loss_bytes.len() < c.bytes;
     let refused = refusal_of(deep, many, long);

@@ -49,7 +49,7 @@ write-quotes-requires c κs =
     let lr = c .before .before .before .before .before .before .before .before .before .before .before .before .before .before .before .before .before .before .before .list-own .kept .1 .1 .1 .0 in
     let lb = c .before .before .before .before .before .before .before .before .before .before .before .before .before .before .before .before .before .before .before .list-own .kept .1 .1 .1 .1 .0 in
     let w = within (c .before .before .before .before .before .before .before .before .before .before .before .before .before .before .before .before .before .before .before .before .before .before .before .before .is-too-deep .result) (length (c .before .before .before .before .before .before .before .before .before .before .before .before .before .before .before .before .before .before .before .list-own .last .1 .1 .1 .0)) (length (c .before .before .before .before .before .before .before .before .before .before .before .before .before .before .before .before .before .before .before .list-own .last .1 .1 .1 .1 .0)) (c .before .before .before .before .before .before .before .before .before .before .before .before .before .before .before .before .before .before .before .list-own .result .losses) (c .before .before .before .before .before .before .before .before .before .before .before .before .before .before .before .before .before .before .before .list-own .result .bytes) (sym (c .before .before .before .before .before .before .before .before .refusal-of .ensures) ∙ c .before .before .before .before .before .before .enum-told .given .1) in
-    (pre .0, ((omega (arith, pre .1 .0, lw), omega (arith, pre .1 .1, ln)), (c .before .before .before .before .before .before .before .before .before .before .before .before .before .before .before .before .before .before .before .before .before .before .before .before .is-too-deep .ensures (cellsOf t) (bytes-cellsOf t) ∙ w .0, listed-there t _ _ _ _ _ _ (c .before .before .before .before .before .before .before .before .before .before .before .before .before .before .before .before .before .before .before .list-own .ensures) (omega (arith, w .1 .0, lr)) (omega (arith, w .1 .1, lb)))))
+    (pre .0, ((omega (arith, pre .1 .0, lw), omega (arith, pre .1 .1, ln)), (c .before .before .before .before .before .before .before .before .before .before .before .before .before .before .before .before .before .before .before .before .before .before .before .before .is-too-deep .ensures (cellsOf t) (bytes-cellsOf t) ∙ w .0, listed-there t _ _ _ _ _ _ _ (c .before .before .before .before .before .before .before .before .before .before .before .before .before .before .before .before .before .before .before .list-own .ensures) (cellsOf t) (bytes-cellsOf t) (omega (arith, w .1 .0, lr)) (omega (arith, w .1 .1, lb)))))
 
 same-length : tie.Need-same-length
 same-length c =
@@ -78,7 +78,7 @@ same-length-6 c =
 returns : tie.Need-returns
 returns c =
     let t = c .before .before .before .before .before .before .before .before .before .before .before .before .before .before .before .before .before .before .before .before .before .before .before .before .before .before .before .before .before .before .before .before .before .before .before .before .before .before .before .before .args .text .now in
-    let n = listed-counts t _ _ _ _ _ _ (c .before .before .before .before .before .before .before .before .before .before .before .before .before .before .before .before .before .before .before .before .before .before .before .before .before .before .before .list-own .ensures) in
+    let n = listed-counts t _ _ _ _ _ _ _ (c .before .before .before .before .before .before .before .before .before .before .before .before .before .before .before .before .before .before .before .before .before .before .before .before .before .before .before .list-own .ensures) (cellsOf t) (bytes-cellsOf t) in
     let v = converted-by (cellsOf t) _ _ _ _ _ _ _ _ (c .before .before .before .before .before .before .before .before .before .before .before .before .before .before .before .before .before .before .before .before .before .before .before .before .before .before .before .list-own .kept .1 .1 .1 .0) (c .before .before .before .before .before .before .before .before .before .before .before .before .before .before .before .before .before .before .before .before .before .before .before .before .before .before .before .list-own .kept .1 .1 .1 .1 .0) (sym (c .before .before .before .before .before .before .before .before .before .before .before .before .before .before .before .before .before .before .before .before .before .before .before .before .before .before .before .before .before .before .before .before .is-too-deep .ensures (cellsOf t) (bytes-cellsOf t))) (n .0) (n .1) in
     answers-refused _ _ _ v (sym (c .before .before .before .before .before .before .before .before .before .before .before .before .before .before .before .before .refusal-of .ensures) ∙ c .before .before .before .before .before .before .before .before .before .before .before .before .before .before .refused .given .1) (c .before .before .before .before .before .before .before .before .refuse .ensures .0) (rw (c .before .before .before .before .before .before .before .before .before .before .before .before .before .before .before .before .before .before .before .before .before .before .before .before .before .before .before .list-own .kept .1 .1 .1 .0, c .before .before .before .before .before .before .before .before .before .before .before .before .before .before .before .before .before .before .before .before .before .before .before .before .before .before .before .list-own .kept .1 .1 .1 .1 .0) at (c .before .before .before .before .before .before .before .before .refuse .ensures .1))
 
@@ -109,7 +109,7 @@ same-length-12 c =
 returns-2 : tie.Need-returns-2
 returns-2 c =
     let t = c .before .before .before .before .before .before .before .before .before .before .before .before .before .before .before .before .before .before .before .before .before .before .before .before .before .before .before .before .before .before .before .before .before .before .before .before .before .before .before .before .before .before .before .before .before .args .text .now in
-    let n = listed-counts t _ _ _ _ _ _ (c .before .before .before .before .before .before .before .before .before .before .before .before .before .before .before .before .before .before .before .before .before .before .before .before .before .before .before .before .before .before .before .before .list-own .ensures) in
+    let n = listed-counts t _ _ _ _ _ _ _ (c .before .before .before .before .before .before .before .before .before .before .before .before .before .before .before .before .before .before .before .before .before .before .before .before .before .before .before .before .before .before .before .before .list-own .ensures) (cellsOf t) (bytes-cellsOf t) in
     let v = converted-by (cellsOf t) _ _ _ _ _ _ _ _ (c .before .before .before .before .before .before .before .before .before .before .before .before .before .before .before .before .before .before .before .before .before .before .before .before .before .before .before .before .before .before .before .before .list-own .kept .1 .1 .1 .0) (c .before .before .before .before .before .before .before .before .before .before .before .before .before .before .before .before .before .before .before .before .before .before .before .before .before .before .before .before .before .before .before .before .list-own .kept .1 .1 .1 .1 .0) (sym (c .before .before .before .before .before .before .before .before .before .before .before .before .before .before .before .before .before .before .before .before .before .before .before .before .before .before .before .before .before .before .before .before .before .before .before .before .before .is-too-deep .ensures (cellsOf t) (bytes-cellsOf t))) (n .0) (n .1) in
     answers-fine _ _ v (sym (c .before .before .before .before .before .before .before .before .before .before .before .before .before .before .before .before .before .before .before .before .before .refusal-of .ensures) ∙ c .before .before .before .before .before .before .before .before .before .before .before .before .before .before .before .before .before .before .before .enum-told .given .1) (rw (c .before .before .before .before .before .before .before .before .before .before .before .before .before .before .before .before .before .before .before .before .before .before .before .before .before .before .before .before .before .before .before .before .list-own .kept .1 .1 .1 .0, c .before .before .before .before .before .before .before .before .before .before .before .before .before .before .before .before .before .before .before .before .before .before .before .before .before .before .before .before .before .before .before .before .list-own .kept .1 .1 .1 .1 .0) at (c .before .before .before .before .before .before .before .before .before .before .before .before .write-quotes .ensures))
 

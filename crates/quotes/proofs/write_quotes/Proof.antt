@@ -6,6 +6,7 @@ use mathlib.Core.List.{List, [], _∷_, _++_}
 use lib.ListN.{length, getD}
 use Rattle.quote_blocks.specs.Quotes.{tooDeep}
 use Rattle.quotes.proofs.Conversion.{source-taken, pass-up, written-full, written-done}
+use Rattle.text.proofs.Copying.{length-cellsOf}
 use Rattle.quotes.proofs.write_quotes.Statement.{statement}
 use Rattle.quotes.proofs.write_quotes.Tie as tie
 use Rattle.quotes.proofs.write_quotes.Reads as reads
@@ -76,7 +77,7 @@ lay-result-requires c κs =
     let ln = c .before .before .before .before .before .before .before .before .before .before .before .before .before .before .before .quote-pass .kept .1 .0 ∙ c .before .before .before .before .before .before .before .before .before .before .before .before .before .before .before .before .before .before .before .before .before .before .before .before .before .before .number .kept .1 .0 in
     let lo = c .before .before .before .before .before .before .before .before .before .before .before .before .before .before .before .quote-pass .kept .1 .1 .1 .1 .1 .0 in
     let lg = c .before .before .before .before .before .before .before .before .before .before .before .before .before .before .before .quote-pass .kept .1 .1 .1 .1 .1 .1 .0 in
-    (((up, (omega (arith, fit, pre .1 .0 .0, lw), omega (arith, fit, pre .1 .0 .1, ln))), (omega (arith, fit, lo), omega (arith, fit, lg, pre .0 .1 .1))), omega (arith, pre .0 .0, pre .1 .1 .1 .few))
+    (((up, (omega (arith, fit, pre .1 .0 .0, lw), omega (arith, fit, pre .1 .0 .1, ln))), (omega (arith, fit, lo), omega (arith, fit, lg, pre .0 .1 .1))), (let n = length-cellsOf (c .before .before .before .before .before .before .before .before .before .before .before .before .before .before .before .before .before .before .before .before .before .before .before .before .before .before .before .before .before .before .before .before .before .before .before .args .text .now) in omega (arith, n, pre .0 .0, pre .1 .1 .1 .few)))
 
 same-length-7 : tie.Need-same-length-7
 same-length-7 c =
