@@ -1,15 +1,17 @@
 -- Laws of the search for a quote's tag: ts are the tags of the text, a is the quote's attribution. Assumes nothing.
-use mathlib.Core.Path.{_≡_, refl, sym, ap, subst, _∙_}
-use Prim.Native.Nat.{ℕ, zero, suc, _+_, _-_, _≤_, _<_, min}
+use mathlib.Core.Path.{_≡_, refl, sym, ap, _∙_}
+use Prim.Native.Nat.{ℕ, zero, suc, _+_, _-_, _*_, _≤_, _<_, min}
+use native.Mathlib.Nat.{min-eq-left, min-eq-right, min-le-right}
+use native.Mathlib.Decide.{decLe}
 use native.Mathlib.Omega.{arith}
 use native.Mathlib.Numerals.{add-one}
 use mathlib.Core.Bool.{Bool, true, false, cond}
 use mathlib.Core.List.{List, [], _∷_}
-use lib.ListN.{length, take, drop, getD, length-take, length-drop}
-use lib.Seq.{drop-cons, length-take-le, take-all}
-use borrow.Author.Tests.{lt-ltb, le-ltb}
-use Rattle.quote_lines.specs.Lines.{Tag, bare, same, find, place, nextAfter, lineAt}
-use Rattle.quote_lines.specs.Tables.{noTag}
+use lib.ListN.{length, drop, getD}
+use lib.Seq.{drop-cons}
+use borrow.Author.Tests.{lt-ltb, le-ltb, eq-eqb, ne-eqb}
+use Rattle.quote_lines.specs.Lines.{Tag, bare, tags, same, find, place, nextAfter, lineAt}
+use Rattle.quote_lines.specs.Tables.{noTag, Table, lineIn}
 
 -- the search that stands at tag i will end where the search from `next` does
 pub record Finding (ts : List Tag) (next : ℕ) (a : List ℕ) (i : ℕ) : Type 0 where
@@ -47,23 +49,36 @@ module _ (ts : List Tag) (next : ℕ) (a : List ℕ) where
       unfound = omega (arith, le, w .ends)
 
       -- tag `next`, at most the last
-      pub failed : {line : ℕ} (k : ℕ) → k ≡ min next (length ts - 1) → line ≡ getD ts k noTag .line → Gives ts next a line next
+      pub failed : {line : ℕ} → line ≡ getD ts (min next (length ts - 1)) noTag .line → Gives ts next a line next
       unfolding place nextAfter lineAt
-      failed {line} k q l =
-          (rw (le-ltb (next + find a (drop next ts)) (length ts) unfound, ← q) l, rw (le-ltb (next + find a (drop next ts)) (length ts) unfound))
+      failed l = (rw (le-ltb (next + find a (drop next ts)) (length ts) unfound) l, rw (le-ltb (next + find a (drop next ts)) (length ts) unfound))
 
--- tag `next`, and the last
-pub at-next : (ts : List Tag) (next : ℕ) → next ≤ length ts - 1 → next ≡ min next (length ts - 1)
-at-next ts next h =
-    let e : length (drop 1 ts) ≡ length ts - 1 = length-drop 1 ts in
-    subst (λ (n : ℕ). next ≡ min next n) e (sym (length-take-le next (drop 1 ts) (omega (arith, e, h))) ∙ length-take next (drop 1 ts))
-
-pub at-last : (ts : List Tag) (next : ℕ) → length ts - 1 ≤ next → length ts - 1 ≡ min next (length ts - 1)
-at-last ts next h =
-    let e : length (drop 1 ts) ≡ length ts - 1 = length-drop 1 ts in
-    subst (λ (n : ℕ). n ≡ min next n) e (sym (ap length (take-all next (drop 1 ts) (omega (arith, e, h)))) ∙ length-take next (drop 1 ts))
+-- ---- where nothing is found
 
 -- there are no tags
-pub none-there : (ts : List Tag) (k : ℕ) → length ts ≡ 0 → 1 ≡ getD ts k noTag .line
+none-there : (ts : List Tag) (k : ℕ) → length ts ≡ 0 → 1 ≡ getD ts k noTag .line
 none-there [] k e = refl
 none-there (x ∷ ts) k e = absurd (omega (arith, e))
+
+module _ (ns : List ℕ) (t count next : ℕ) where
+  pub line-none : count ≡ 0 → 1 ≡ lineIn ns t count next
+  unfolding lineIn
+  line-none e = rw (eq-eqb count 0 e)
+
+  module _ (n : count ≡ 0 → ⊥) where
+    pub line-next : next < count → getD ns (t + 4 * next) 0 ≡ lineIn ns t count next
+    unfolding lineIn
+    line-next lt = let m : min next (count - 1) ≡ next = min-eq-left (omega arith) in rw (ne-eqb count 0 n, m)
+
+    pub line-last : count ≤ next → getD ns (t + 4 * (count - 1)) 0 ≡ lineIn ns t count next
+    unfolding lineIn
+    line-last le = let m : min next (count - 1) ≡ count - 1 = min-eq-right (omega arith) in rw (ne-eqb count 0 n, m)
+
+-- the line in the table is that of the tag
+pub line-there : (s ns : List ℕ) (t count next : ℕ) → Table s ns t count → lineIn ns t count next ≡ getD (tags 1 0 s) (min next (length (tags 1 0 s) - 1)) noTag .line
+unfolding lineIn
+line-there s ns t count next w =
+    elim (decLe count 0) [
+      | yes p ↦ rw (eq-eqb count 0 (omega arith)) (none-there (tags 1 0 s) (min next (length (tags 1 0 s) - 1)) (omega (arith, w .all)))
+      | no p ↦ rw (ne-eqb count 0 (λ (e : count ≡ 0). omega arith), ← w .all) (w .each (min next (count - 1)) (let m = min-le-right next (count - 1) in omega arith) .line-is)
+    ]

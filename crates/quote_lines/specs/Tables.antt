@@ -3,16 +3,20 @@
 --   wordsAt s ns p        the attribution of the tag whose numbers stand at p
 --   TagAt s ns p tag      the numbers at p are those of a tag
 --   Table s ns t count    the table holds the tags of s, so many
+--   LinesRead text bs ns size count  bs begins with the masked text, so many bytes, and ns with its table
+--   lineIn ns t count next  the line of tag `next`, at most the last; 1 if there are none
 --   Tabled s ns t i line count  it holds those that begin before place i, where this line is
 --   linesBehind line s    the line behind s, where it begins in this line
 --   PastBackslashes s i r   r is the first place from i on with another byte than a backslash, or the end
 -- Assumes nothing.
 use mathlib.Core.Path.{_≡_}
-use Prim.Native.Nat.{ℕ, _+_, _*_, _≤_, _<_}
-use mathlib.Core.Bool.{false}
+use Prim.Native.Nat.{ℕ, _+_, _-_, _*_, _≤_, _<_, min}
+use mathlib.Core.Bool.{false, cond}
 use mathlib.Core.List.{List, [], _∷_}
 use lib.ListN.{length, take, drop, getD}
+use lib.Dec.{eqb}
 use Rattle.text.specs.Ascii.{is}
+use Rattle.quote_lines.specs.Masks.{visible}
 use Rattle.quote_lines.specs.Lines.{Tag, bare, lineAfter, tags}
 
 unfoldable pub wordsAt : (s ns : List ℕ) → ℕ → List ℕ
@@ -37,6 +41,14 @@ pub record Table (s ns : List ℕ) (t count : ℕ) : Type 0 where
   pub all : count ≡ length (tags 1 0 s)
   pub room : t + 4 * count ≤ length ns
   pub each : TagsAt s ns t count
+
+pub record LinesRead (text bs ns : List ℕ) (size count : ℕ) : Type 0 where
+  pub short : size ≤ length text
+  pub masked : take size bs ≡ visible text
+  pub table : Table (take size bs) ns 0 count
+
+unfoldable pub lineIn : (ns : List ℕ) (t count next : ℕ) → ℕ
+lineIn ns t count next = cond (eqb count 0) 1 (getD ns (t + 4 * min next (count - 1)) 0)
 
 pub record Tabled (s ns : List ℕ) (t i line count : ℕ) : Type 0 where
   pub rest : drop count (tags 1 0 s) ≡ tags line 0 (drop i s)

@@ -1,14 +1,16 @@
 // The quote tags of the original text, and the line of a converted quote.
+use crate::mask::mask_all;
 use crate::tag::bracket_from;
 use crate::tag::opener_size;
 use text::PostAt;
 use text::scan::next_bracket;
+use text::source::set_source;
 ghost use mathlib.Core.Path.{_≡_};
 ghost use Prim.Native.Nat.{_+_, _-_, _*_, _≤_, _<_};
 ghost use lib.ListN.{length, take, drop};
 ghost use Rattle.quote_lines.specs.Tags.{NextBracket};
 ghost use Rattle.quote_lines.specs.Lines.{bare, lineAfter, tags, same, place, nextAfter, lineAt};
-ghost use Rattle.quote_lines.specs.Tables.{wordsAt, WordsAt, TagAt, Table, Tabled, linesBehind, PastBackslashes};
+ghost use Rattle.quote_lines.specs.Tables.{wordsAt, WordsAt, TagAt, Table, LinesRead, lineIn, Tabled, linesBehind, PastBackslashes};
 
 // A place in the text, the place of the next `]`, the line there, and how many tags stand in the table.
 pub struct Reading {
@@ -100,7 +102,7 @@ fn line_behind(s: &[u8], a: usize, e: usize, line: usize) -> usize
 }
 
 // How many bytes the attribution of an opener of k bytes has.
-fn attribution_size(k: usize) -> usize
+pub fn attribution_size(k: usize) -> usize
     ensures { λ r. ⌜ r ≡ k - 8 ⌝ }
 {
     if k < 8 {
@@ -176,6 +178,23 @@ pub fn read_tags(s: &[u8], numbers: &mut [u32], t: usize) -> usize
     st.count
 }
 
+// How many bytes a masked text has, and how many tags its table.
+pub struct Lines {
+    pub size: usize,
+    pub count: usize,
+}
+
+// Masks a text at the front of a slice, and writes the table of its quote tags at the front of the numbers.
+pub fn read_lines(text: &[u8], work: &mut [u8], numbers: &mut [u32]) -> Lines
+    requires { ⌜ (length (now text) ≤ 262144) × ((length (now text) ≤ length (now work)) × (length (now text) ≤ length (now numbers))) ⌝ }
+    ensures { λ r. ⌜ LinesRead (now (text .entry)) (now (work .exit)) (now (numbers .exit)) (r .size) (r .count) ⌝ }
+{
+    set_source(text, work);
+    let size = mask_all(work, text.len());
+    let count = read_tags(&work[..size], numbers, 0);
+    Lines { size, count }
+}
+
 // Whether the tag at p has an attribution that is the same without backslashes; `size` is how many bytes that has.
 fn has_attribution(s: &[u8], numbers: &[u32], p: usize, attribution: &[u8], size: usize) -> bool
     requires { ⌜ ((p + 4 ≤ length (now numbers)) × (size ≡ length (bare (now attribution)))) × WordsAt (now s) (now numbers) p ⌝ }
@@ -188,6 +207,20 @@ fn has_attribution(s: &[u8], numbers: &[u32], p: usize, attribution: &[u8], size
     let a = numbers[p + 1] as usize;
     let e = a + numbers[p + 2] as usize;
     same_bare(&s[a..e], attribution)
+}
+
+// The line of tag `next`, at most the last; 1 if there are no tags.
+fn line_at(numbers: &[u32], t: usize, count: usize, next: usize) -> u32
+    requires { ⌜ t + 4 * count ≤ length (now numbers) ⌝ }
+    ensures { λ r. ⌜ r ≡ lineIn (now (numbers .entry)) t count next ⌝ }
+{
+    if count == 0 {
+        return 1;
+    }
+    if next < count {
+        return numbers[t + 4 * next];
+    }
+    numbers[t + 4 * (count - 1)]
 }
 
 // The line of a quote with this attribution, searched from tag `next` on.
@@ -213,17 +246,6 @@ pub fn line_of(
         }
         i += 1;
     }
-    if count == 0 {
-        return Found { line: 1, next };
-    }
-    if next < count {
-        return Found {
-            line: numbers[t + 4 * next],
-            next,
-        };
-    }
-    Found {
-        line: numbers[t + 4 * (count - 1)],
-        next,
-    }
+    let line = line_at(numbers, t, count, next);
+    Found { line, next }
 }

@@ -14,6 +14,7 @@ use Rattle.quote_blocks.specs.Quotes.{quotes, quotesNeed, tooDeep, takenQuotes,
 use Rattle.quote_lines.specs.Masks.{visible, computes as masksCompute}
 use Rattle.quote_lines.specs.Lines.{linesOf, computes as searchComputes}
 use Rattle.quotes.specs.Losses.{lossRecords, lossBytes, computes as lossesCompute}
+use Rattle.quotes.specs.Calls.{converted, numberOfAnswer, countsOfAnswer, computes as callsCompute}
 use Rattle.day.specs.Day.{computes as dayComputes}
 use Rattle.attribution_parts.specs.Parts.{computes as partsCompute}
 use Rattle.attribution_parts.specs.Attribution.{caption as attributionCaption, computes as attributionComputes}
@@ -62,6 +63,14 @@ caption-trimmed : Gives "[quote][quote=x\ny ]a[/quote][/quote]" "\n\n> > a\n> ^ 
 unfolding asciiComputes blanksCompute cellsCompute linesCompute tagsCompute quotesCompute
 caption-trimmed = refl
 
+-- U+00A0 too, of an attribution's caption
+no-break : List ℕ
+no-break = ascii "[quote][quote=\"x" ++ (0xC2 ∷ 0xA0 ∷ []) ++ ascii "\"]a[/quote][/quote]"
+
+no-break-trimmed : bytes (quotes attributionCaption (cellsOf no-break)) ≡ ascii "\n\n> > a\n> ^ x\n\n"
+unfolding no-break asciiComputes blanksCompute cellsCompute linesCompute tagsCompute quotesCompute partsCompute attributionComputes dayComputes
+no-break-trimmed = refl
+
 -- a line feed inside a quote is put there anew
 joining-feeds : origins (quotes caption (cellsOf (ascii "[quote]a\na[/quote]\n"))) ≡ 0 ∷ 0 ∷ 0 ∷ 0 ∷ 8 ∷ 0 ∷ 0 ∷ 0 ∷ 10 ∷ 0 ∷ 0 ∷ 19 ∷ []
 unfolding asciiComputes blanksCompute cellsCompute linesCompute tagsCompute quotesCompute
@@ -78,9 +87,16 @@ unfolding asciiComputes blanksCompute cellsCompute linesCompute tagsCompute quot
 outermost-counts = refl
 
 -- trimming shrinks: the content counts while it is open
-trimming-shrinks : Needs "[quote]          [/quote]" 10
-unfolding asciiComputes blanksCompute cellsCompute linesCompute tagsCompute quotesCompute
+hundred : List Cell
+hundred = cellsOf (ascii "[quote]" ++ replicate 100 32 ++ ascii "[/quote]")
+
+trimming-shrinks : quotesNeed caption hundred ≡ 100
+unfolding hundred asciiComputes blanksCompute cellsCompute linesCompute tagsCompute quotesCompute
 trimming-shrinks = refl
+
+trimmed-result : length (quotes caption hundred) ≡ 5
+unfolding hundred asciiComputes blanksCompute cellsCompute linesCompute tagsCompute quotesCompute
+trimmed-result = refl
 
 -- a block replaces the content that it closes
 block-replaces : Needs "x[quote=A]a[/quote]" 12
@@ -180,3 +196,41 @@ thread-records = refl
 thread-bytes : lossBytes (cellsOf thread) ≡ ascii "rankxy"
 unfolding thread asciiComputes blanksCompute cellsCompute linesCompute tagsCompute quotesCompute masksCompute searchComputes lossesCompute recordsOf lossWords partsCompute attributionComputes dayComputes
 thread-bytes = refl
+
+-- every quote moves `next`, also one without losses: the search for the masked quote fails, and takes the tag behind the first
+moved : List ℕ
+moved = ascii "[quote=a]\n[c][quote=k=1][/c]\n[quote=b]"
+
+moved-records : lossRecords moved (cellsOf moved) ≡ 2 ∷ 3 ∷ 0 ∷ 0 ∷ 1 ∷ []
+unfolding moved asciiComputes blanksCompute cellsCompute linesCompute tagsCompute quotesCompute masksCompute searchComputes lossesCompute recordsOf lossWords partsCompute attributionComputes dayComputes
+moved-records = refl
+
+-- ---- answers: an output of m bytes, j record numbers, b loss bytes
+
+abbrev Refuses : (x : List ℕ) (m j b number : ℕ) → Type 0
+Refuses x m j b number = numberOfAnswer (converted (cellsOf x) m j b) ≡ number
+
+-- 65 openers are refusal 5, whatever is lent
+deep-first : Refuses (repeat 65 (ascii "[quote=a=1]")) 0 0 0 5
+unfolding repeat asciiComputes blanksCompute cellsCompute tagsCompute quotesCompute callsCompute
+deep-first = refl
+
+lossy : List ℕ
+lossy = ascii "[quote=rank=1]x"
+
+-- then 7, at one record number short; then 8, at one byte short; then 6, at one byte below the need
+records-next : Refuses lossy 0 4 0 7
+unfolding lossy asciiComputes blanksCompute cellsCompute linesCompute tagsCompute quotesCompute lossesCompute lossWords partsCompute attributionComputes dayComputes callsCompute
+records-next = refl
+
+bytes-next : Refuses lossy 0 5 3 8
+unfolding lossy asciiComputes blanksCompute cellsCompute linesCompute tagsCompute quotesCompute lossesCompute lossWords partsCompute attributionComputes dayComputes callsCompute
+bytes-next = refl
+
+space-last : Refuses lossy 6 5 4 6
+unfolding lossy asciiComputes blanksCompute cellsCompute linesCompute tagsCompute quotesCompute lossesCompute lossWords partsCompute attributionComputes dayComputes callsCompute
+space-last = refl
+
+all-fits : countsOfAnswer (converted (cellsOf lossy) 7 5 4) ≡ 7 ∷ 1 ∷ 4 ∷ []
+unfolding lossy asciiComputes blanksCompute cellsCompute linesCompute tagsCompute quotesCompute lossesCompute lossWords partsCompute attributionComputes dayComputes callsCompute
+all-fits = refl

@@ -1,2 +1,203 @@
-// Quotes: the limit of open quotes, losses and their lines, the operation.
+// Quotes to Carve text (document 01, "Quotes").
+use attribution_losses::loss::Counts;
+use deep::is_too_deep;
+use loss::list_losses;
+use quote_lines::search::read_lines;
+use quote_steps::pass::quote_pass;
+use text::PostAt;
+use text::TextAt;
+use text::blank::number;
+use text::lent::Checked;
+use text::lent::Lent;
+use text::lent::Refusal;
+use text::lent::Spans;
+use text::lent::check;
+use text::source::set_source;
+use text::write::lay_nothing;
+use text::write::lay_part;
+use text::zero::zero8;
+use text::zero::zero32;
+ghost use mathlib.Core.Path.{_≡_};
+ghost use mathlib.Core.Bool.{false};
+ghost use mathlib.Core.List.{[]};
+ghost use Prim.Native.Nat.{_+_, _-_, _*_, _≤_};
+ghost use lib.ListN.{length};
+ghost use Rattle.text.specs.Cells.{cells, cellsOf, part};
+ghost use Rattle.text.specs.Writes.{cleared, LaidOut};
+ghost use Rattle.quote_lines.specs.Masks.{visible};
+ghost use Rattle.quote_lines.specs.Lines.{tags};
+ghost use Rattle.quote_blocks.specs.Quotes.{tooDeep};
+ghost use Rattle.quotes.specs.Losses.{ListsLosses};
+ghost use Rattle.quotes.specs.Calls.{limited, spaced, converted, Filled, Answers, Called, Listed};
+ghost use Rattle.quotes.specs.declared.Quoted.the-variants.{Done, Refused};
+
 pub mod deep;
+pub mod loss;
+
+// The lengths of the text and of the loss bytes, with the number of losses between; or why there is no text.
+pub enum Quoted {
+    Done(usize, usize, usize),
+    Refused(Refusal),
+}
+
+// A refusal: all that is lent for the result is zero.
+fn refuse(
+    r: Refusal,
+    out: &mut [u8],
+    origins: &mut [u32],
+    records: &mut [u32],
+    loss_bytes: &mut [u8],
+) -> Quoted
+    ensures { λ l. ⌜ (l ≡ Refused r) × Filled [] [] [] (length (now (out .entry))) (length (now (origins .entry))) (length (now (records .entry))) (length (now («loss_bytes» .entry))) (now (out .exit)) (now (origins .exit)) (now (records .exit)) (now («loss_bytes» .exit)) ⌝ }
+{
+    lay_nothing(out, origins);
+    zero32(records, TextAt(0));
+    zero8(loss_bytes, TextAt(0));
+    Quoted::Refused(r)
+}
+
+// Lists the losses of a text, with the lines of its own quotes.
+fn list_own(
+    text: &[u8],
+    work: &mut [u8],
+    numbers: &mut [u32],
+    records: &mut [u32],
+    loss_bytes: &mut [u8],
+) -> Counts
+    requires { ⌜ (length (now text) ≤ 262144) × ((length (now text) ≤ length (now work)) × (length (now text) ≤ length (now numbers))) ⌝ }
+    ensures { λ r. ⌜ ListsLosses (now (text .entry)) (tags 1 0 (visible (now (text .entry)))) (now (records .entry)) (now («loss_bytes» .entry)) (now (records .exit)) (now («loss_bytes» .exit)) (r .losses) (r .bytes) ⌝ }
+{
+    let own = read_lines(text, work, numbers);
+    let size = own.size;
+    list_losses(text, &work[..size], numbers, own.count, records, loss_bytes)
+}
+
+// The first of the refusals 5, 7, 8 that applies: the text is too deep, its losses are more than the records, or longer than the bytes.
+fn refusal_of(deep: bool, many: bool, long: bool) -> Checked
+    ensures { λ r. ⌜ r ≡ limited deep many long ⌝ }
+{
+    if deep {
+        return Checked::Refused(Refusal::TooDeep);
+    }
+    if many {
+        return Checked::Refused(Refusal::TooManyLosses);
+    }
+    if long {
+        return Checked::Refused(Refusal::LossBytesShort);
+    }
+    Checked::Fine
+}
+
+// Lays out the cells from a place up to another, and clears what is behind the losses.
+fn lay_result(
+    work: &[u8],
+    numbers: &[u32],
+    from: PostAt,
+    to: PostAt,
+    losses: Counts,
+    out: &mut [u8],
+    origins: &mut [u32],
+    records: &mut [u32],
+    loss_bytes: &mut [u8],
+) -> Quoted
+    requires { ⌜ (((from .0 ≤ to .0) × ((to .0 ≤ length (now work)) × (to .0 ≤ length (now numbers)))) × ((to .0 ≤ from .0 + length (now out)) × (to .0 ≤ from .0 + length (now origins)))) × (losses .losses ≤ 262144) ⌝ }
+    ensures { λ l. ⌜ (l ≡ Done (to .0 - from .0) (losses .losses) (losses .bytes)) × (LaidOut (part (from .0) (to .0) (cells (now (work .entry)) (now (numbers .entry)))) (length (now (out .entry))) (length (now (origins .entry))) (now (out .exit)) (now (origins .exit)) × ((now (records .exit) ≡ cleared (5 * losses .losses) (now (records .entry))) × (now («loss_bytes» .exit) ≡ cleared (losses .bytes) (now («loss_bytes» .entry))))) ⌝ }
+{
+    let a = from.0;
+    let e = to.0;
+    let count = losses.losses;
+    let bytes = losses.bytes;
+    lay_part(work, numbers, from, to, out, origins);
+    zero32(records, TextAt(5 * count));
+    zero8(loss_bytes, TextAt(bytes));
+    Quoted::Done(e - a, count, bytes)
+}
+
+// Writes a text within the limits, whose losses are listed.
+fn write_quotes(
+    text: &[u8],
+    losses: Counts,
+    work: &mut [u8],
+    numbers: &mut [u32],
+    out: &mut [u8],
+    origins: &mut [u32],
+    records: &mut [u32],
+    loss_bytes: &mut [u8],
+) -> Quoted
+    requires { ⌜ ((length (now text) ≤ 262144) × ((length (now out) ≤ 16777216) × (length (now out) ≤ length (now origins)))) × (((length (now text) + 3 * length (now out) ≤ length (now work)) × (8 * length (now text) + 3 * length (now out) + 64 ≤ length (now numbers))) × ((tooDeep (cellsOf (now text)) ≡ false) × Listed (now text) (cellsOf (now text)) (now records) (now «loss_bytes») (losses .losses) (losses .bytes))) ⌝ }
+    ensures { λ r. ⌜ Answers (now (text .entry)) (length (now (out .entry))) (length (now (origins .entry))) (length (now (records .entry))) (length (now («loss_bytes» .entry))) (spaced (cellsOf (now (text .entry))) (length (now (out .entry)))) r (now (out .exit)) (now (origins .exit)) (now (records .exit)) (now («loss_bytes» .exit)) ⌝ }
+{
+    let n = text.len();
+    let end = n + out.len();
+    number(text, numbers);
+    set_source(text, work);
+    let r = quote_pass(work, numbers, n, n, end, out, origins);
+    let to = r.0;
+    if end < to {
+        return refuse(Refusal::NoSpace, out, origins, records, loss_bytes);
+    }
+    lay_result(
+        work,
+        numbers,
+        PostAt(n),
+        PostAt(to),
+        losses,
+        out,
+        origins,
+        records,
+        loss_bytes,
+    )
+}
+
+// Converts a text that is right, in memory that is large enough.
+fn convert(
+    text: &[u8],
+    work: &mut [u8],
+    numbers: &mut [u32],
+    out: &mut [u8],
+    origins: &mut [u32],
+    records: &mut [u32],
+    loss_bytes: &mut [u8],
+) -> Quoted
+    requires { ⌜ ((length (now text) ≤ 262144) × ((length (now out) ≤ 16777216) × (length (now out) ≤ length (now origins)))) × ((length (now text) + 3 * length (now out) ≤ length (now work)) × (8 * length (now text) + 3 * length (now out) + 64 ≤ length (now numbers))) ⌝ }
+    ensures { λ r. ⌜ Answers (now (text .entry)) (length (now (out .entry))) (length (now (origins .entry))) (length (now (records .entry))) (length (now («loss_bytes» .entry))) (converted (cellsOf (now (text .entry))) (length (now (out .entry))) (length (now (records .entry))) (length (now («loss_bytes» .entry)))) r (now (out .exit)) (now (origins .exit)) (now (records .exit)) (now («loss_bytes» .exit)) ⌝ }
+{
+    let deep = is_too_deep(text);
+    let c = list_own(text, work, numbers, records, loss_bytes);
+    // a record takes five numbers
+    let many = records.len() / 5 < c.losses;
+    let long = loss_bytes.len() < c.bytes;
+    let refused = refusal_of(deep, many, long);
+    match refused {
+        Checked::Refused(r) => refuse(r, out, origins, records, loss_bytes),
+        Checked::Fine => write_quotes(text, c, work, numbers, out, origins, records, loss_bytes),
+    }
+}
+
+// Quotes of a text: document 01's refusals 1 to 4, then 5, 7, 8, 6.
+pub fn convert_quotes(
+    text: &[u8],
+    out: &mut [u8],
+    origins: &mut [u32],
+    records: &mut [u32],
+    loss_bytes: &mut [u8],
+    work: &mut [u8],
+    numbers: &mut [u32],
+) -> Quoted
+    ensures { λ r. ⌜ Called (now (text .entry)) (length (now (out .entry))) (length (now (origins .entry))) (length (now (records .entry))) (length (now («loss_bytes» .entry))) (length (now (work .entry))) (length (now (numbers .entry))) r (now (out .exit)) (now (origins .exit)) (now (records .exit)) (now («loss_bytes» .exit)) ⌝ }
+{
+    let checked = check(
+        text,
+        Lent {
+            out: out.len(),
+            origins: origins.len(),
+            work: work.len(),
+            numbers: numbers.len(),
+            spans: Spans::Without,
+        },
+    );
+    match checked {
+        Checked::Refused(r) => refuse(r, out, origins, records, loss_bytes),
+        Checked::Fine => convert(text, work, numbers, out, origins, records, loss_bytes),
+    }
+}

@@ -1,0 +1,145 @@
+use borrow.Author.Needs.{needs}
+use native.Mathlib.Omega.{arith}
+use mathlib.Core.Path.{_≡_, refl, sym, ap, _∙_}
+use Prim.Native.Nat.{ℕ, suc, _+_, _-_, _≤_, _<_}
+use mathlib.Core.List.{List, [], _∷_, _++_}
+use lib.ListN.{length, getD}
+use Rattle.quote_lines.specs.Tags.{closers, closerSize}
+use Rattle.quote_lines.proofs.Tagging.{behind-within}
+use Rattle.quotes.proofs.Recording.{attribution-part, opener-room, attribution-short, lists-opener, lists-closer, lists-text}
+use Rattle.quotes.proofs.loss.list_token.Statement.{statement}
+use Rattle.quotes.proofs.loss.list_token.Tie as tie
+use Rattle.quotes.proofs.loss.list_token.Reads as reads
+use Rattle.quotes.proofs.loss.list_token.Lts as lts
+use Rattle.attribution_losses.proofs.loss.put_losses.Reads as put-losses-reads
+use Rattle.quote_lines.proofs.search.attribution_size.Reads as attribution-size-reads
+use Rattle.quote_lines.proofs.search.line_of.Reads as line-of-reads
+use Rattle.quote_lines.proofs.tag.tag_at.Reads as tag-at-reads
+
+tag-at-requires : tie.Need-tag-at-requires
+tag-at-requires c κs = search needs
+
+add-a : tie.Need-add-a
+add-a c = search needs
+
+attribution-size-requires : tie.Need-attribution-size-requires
+attribution-size-requires c κs = search needs
+
+add-e : tie.Need-add-e
+add-e c =
+    let a = c .before .before .before .before .before .before .before .before .before .before .before in
+    let room = opener-room (a .args .source .now) (a .args .from .at .0) _ _ (a .pre .0 .0) (c .before .before .before .tag-at .ensures .1 .0) (c .before .if1 .taken) (c .attribution-size .ensures) in
+    omega (arith, room .0, room .1, a .pre .0 .1)
+
+sub-line-of : tie.Need-sub-line-of
+sub-line-of c = search needs
+
+part-line-of-start : tie.Need-part-line-of-start
+part-line-of-start c = search needs
+
+part-line-of-end : tie.Need-part-line-of-end
+part-line-of-end c =
+    let a = c .before .before .before .before .before .before .before .before .before .before .before in
+    let room = opener-room (a .args .source .now) (a .args .from .at .0) _ _ (a .pre .0 .0) (c .before .before .before .tag-at .ensures .1 .0) (c .before .if1 .taken) (c .attribution-size .ensures) in
+    omega (arith, room .0, room .1)
+
+line-of-requires : tie.Need-line-of-requires
+line-of-requires c κs =
+    c .before .before .before .before .before .before .before .before .before .before .before .before .pre .1 .1
+
+sub-put-losses : tie.Need-sub-put-losses
+sub-put-losses c = search needs
+
+part-put-losses-start : tie.Need-part-put-losses-start
+part-put-losses-start c = search needs
+
+part-put-losses-end : tie.Need-part-put-losses-end
+part-put-losses-end c =
+    let a = c .before .before .before .before .before .before .before .before .before .before .before .before .before in
+    let room = opener-room (a .args .source .now) (a .args .from .at .0) _ _ (a .pre .0 .0) (c .before .before .before .before .before .tag-at .ensures .1 .0) (c .before .before .before .if1 .taken) (c .before .before .attribution-size .ensures) in
+    omega (arith, room .0, room .1)
+
+cast-put-losses : tie.Need-cast-put-losses
+cast-put-losses c =
+    let a = c .before .before .before .before .before .before .before .before .before .before .before .before .before .before in omega (arith, a .pre .0 .0, a .pre .0 .1, a .pre .1 .0 .1 .quotes)
+
+put-losses-requires : tie.Need-put-losses-requires
+put-losses-requires c κs =
+    let a = c .before .before .before .before .before .before .before .before .before .before .before .before .before .before .before .before in
+    let room = opener-room (a .args .source .now) (a .args .from .at .0) _ _ (a .pre .0 .0) (c .before .before .before .before .before .before .before .before .tag-at .ensures .1 .0) (c .before .before .before .before .before .before .if1 .taken) (c .before .before .before .before .before .attribution-size .ensures) in
+    let h = attribution-short (a .args .source .now) (a .args .from .at .0) _ _ (a .pre .0 .0) (c .before .before .before .before .before .before .before .before .tag-at .ensures .1 .0) (c .before .before .before .before .before .before .if1 .taken) (c .before .before .before .before .before .attribution-size .ensures) in
+    (omega (arith, h, room .1, a .pre .0 .1), (omega (arith, h, room .1, a .pre .0 .1, a .pre .1 .0 .1 .losses), omega (arith, h, room .1, a .pre .0 .1, a .pre .1 .0 .1 .bytes)))
+
+add-t24 : tie.Need-add-t24
+add-t24 c =
+    let a = c .before .before .before .before .before .before .before .before .before .before .before .before .before .before .before .before .before .before .before .before .before in
+    let room = opener-room (a .args .source .now) (a .args .from .at .0) _ _ (a .pre .0 .0) (c .before .before .before .before .before .before .before .before .before .before .before .before .before .tag-at .ensures .1 .0) (c .before .before .before .before .before .before .before .before .before .before .before .if1 .taken) (c .before .before .before .before .before .before .before .before .before .before .attribution-size .ensures) in
+    omega (arith, room .1, a .pre .0 .1)
+
+add-t37 : tie.Need-add-t37
+add-t37 c =
+    let a = c .before .before .before .before .before .before .before .before .before .before .before .before .before .before .before .before .before .before .before .before .before in omega (arith, a .pre .0 .0, a .pre .0 .1, a .pre .1 .0 .1 .quotes)
+
+same-length : tie.Need-same-length
+same-length c =
+    c .before .before .before .before .put-losses .kept .1 .1 .1 .0
+
+same-length-2 : tie.Need-same-length-2
+same-length-2 c =
+    c .before .before .before .before .put-losses .kept .1 .1 .1 .1 .1 .0
+
+returns : tie.Need-returns
+returns c =
+    let a = c .before .before .before .before .before .before .before .before .before .before .before .before .before .before .before .before .before .before .before .before .before in
+    let h = attribution-short (a .args .source .now) (a .args .from .at .0) _ _ (a .pre .0 .0) (c .before .before .before .before .before .before .before .before .before .before .before .before .before .tag-at .ensures .1 .0) (c .before .before .before .before .before .before .before .before .before .before .before .if1 .taken) (c .before .before .before .before .before .before .before .before .before .before .attribution-size .ensures) in
+    lists-opener (a .args .source .now) _ _ _ (a .args .from .at .0) _ _ _ _ (a .pre .0 .0) (a .pre .1 .0 .1) _ (c .before .before .before .before .before .before .before .before .before .before .before .before .before .tag-at .ensures .0) _ (c .before .before .before .before .before .before .before .before .before .before .before .before .before .tag-at .ensures .1 .0)
+    _ _ _ _ _ _ _ (c .before .before .before .before .before .before .before .before .before .before .before .if1 .taken) (attribution-part (a .args .source .now) (a .args .from .at .0) _ _ (c .before .before .before .before .before .before .before .before .before .before .before .before .before .tag-at .ensures .1 .0) (c .before .before .before .before .before .before .before .before .before .before .attribution-size .ensures)) (omega (arith, h)) (c .before .before .before .before .before .before .before .before .line-of .ensures) (c .before .before .before .before .put-losses .ensures)
+
+add-t38 : tie.Need-add-t38
+unfolding closerSize
+add-t38 c =
+    let a = c .before .before .before .before .before .before .before .before .before .before .before in
+    let w = behind-within closers (a .args .source .now) (a .args .from .at .0) (omega arith) (c .before .before .before .tag-at .ensures .1 .1) in
+    omega (arith, w, a .pre .0 .1)
+
+returns-2 : tie.Need-returns-2
+returns-2 c =
+    let a = c .before .before .before .before .before .before .before .before .before .before .before in
+    let t = c .before .before .before .tag-at .ensures in
+    lists-closer (a .args .source .now) _ _ _ (a .args .from .at .0) _ _ _ _ (a .pre .0 .0) (a .pre .1 .0 .1) _ (t .0) _ (t .1 .0) (c .before .if1 .left) _ (t .1 .1) (c .if2 .taken)
+
+add-t40 : tie.Need-add-t40
+add-t40 c = search needs
+
+returns-3 : tie.Need-returns-3
+returns-3 c =
+    let a = c .before .before .before .before .before .before .before .before .before .before .before in
+    let t = c .before .before .before .tag-at .ensures in
+    lists-text (a .args .source .now) _ _ _ (a .args .from .at .0) _ _ _ _ (a .pre .0 .0) (a .pre .1 .0 .1) _ (t .0) _ (t .1 .0) (c .before .if1 .left) _ (t .1 .1) (c .if2 .left)
+
+pub list-token-spec : {M : Type 1} → statement M
+list-token-spec =
+    tie.close
+    (tie.spec
+    tag-at-requires
+    add-a
+    attribution-size-requires
+    add-e
+    sub-line-of
+    part-line-of-start
+    part-line-of-end
+    line-of-requires
+    sub-put-losses
+    part-put-losses-start
+    part-put-losses-end
+    cast-put-losses
+    put-losses-requires
+    add-t24
+    add-t37
+    same-length
+    same-length-2
+    returns
+    add-t38
+    returns-2
+    add-t40
+    returns-3)

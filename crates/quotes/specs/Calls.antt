@@ -1,0 +1,96 @@
+-- A whole call of `convert_quotes`, which is lent m output bytes, k origins, j record numbers (five a record) and b loss bytes.
+--   limited deep many long   the first of document 01's refusals 5, 7, 8 that applies
+--   spaced x m               the answer for a text x within these limits: document 01's refusal 6, or the lengths of what is left
+--   converted x m j b        the answer for a text x that is right: 5, 7, 8, 6, each over the whole text
+--   answered text lent j b   the answer of the call: document 01's refusals 1 to 4, then these
+--   numberOfAnswer r         document 01's number of an answer: 0 where the call is not turned back
+--   countsOfAnswer r         its values: the text's length, the losses and the loss bytes; 0 each on a refusal
+--   textOf, recordsIn, wordsIn   what the call leaves: text, records and loss bytes, or nothing on refusal
+--   Filled ..                the four slices hold such a text, records and loss bytes, with zeros behind
+--   Called ..                what comes back, and what the lent slices then hold
+--   Listed s x ..            in code: the records and loss bytes of the text x, with lines in the original text s, stand at the front of slices
+-- Assumes nothing.
+use mathlib.Core.Path.{_≡_}
+use Prim.Native.Nat.{ℕ, _*_, _/_, _≤_}
+use mathlib.Core.Bool.{Bool, cond}
+use mathlib.Core.List.{List, [], _∷_}
+use lib.ListN.{length, take}
+use lib.Dec.{ltb}
+use Rattle.text.specs.Cells.{Cell, cellsOf}
+use Rattle.text.specs.Lent.{numberOf, checked}
+use Rattle.text.specs.Writes.{padded, LaidOut}
+use Rattle.text.specs.declared.lent.Refusal.the-variants.{TooDeep, NoSpace, TooManyLosses, LossBytesShort}
+use Rattle.text.specs.declared.lent.Spans.the-variants.{Without}
+use Rattle.text.specs.declared.lent.Lent.{Lent}
+use Rattle.text.specs.declared.lent.Checked.{Checked}
+use Rattle.text.specs.declared.lent.Checked.the-variants as C
+use Rattle.attribution_parts.specs.Attribution.{caption}
+use Rattle.quote_blocks.specs.Quotes.{tooDeep, quotes, quotesNeed}
+use Rattle.quotes.specs.declared.Quoted.{Quoted}
+use Rattle.quotes.specs.declared.Quoted.the-variants.{Done, Refused}
+use Rattle.quotes.specs.Losses.{quoteLosses, lossBytes, lossRecords}
+
+abbrev pub limited : (deep many long : Bool) → Checked
+limited deep many long = cond deep (C.Refused TooDeep) (cond many (C.Refused TooManyLosses) (cond long (C.Refused LossBytesShort) C.Fine))
+
+unfoldable pub spaced : (x : List Cell) → (m : ℕ) → Quoted
+spaced x m = cond (ltb m (quotesNeed caption x)) (Refused NoSpace) (Done (length (quotes caption x)) (length (quoteLosses x)) (length (lossBytes x)))
+
+-- a refusal, or what else is answered
+abbrev pub answerBy : Checked → Quoted → Quoted
+answerBy (C.Refused r) else = Refused r
+answerBy C.Fine else = else
+
+-- a record takes five numbers
+unfoldable pub converted : (x : List Cell) → (m j b : ℕ) → Quoted
+converted x m j b = answerBy (limited (tooDeep x) (ltb (j / 5) (length (quoteLosses x))) (ltb b (length (lossBytes x)))) (spaced x m)
+
+unfoldable pub answered : (text : List ℕ) → Lent → (j b : ℕ) → Quoted
+answered text lent j b = answerBy (checked text lent) (converted (cellsOf text) (lent .out) j b)
+
+abbrev pub numberOfAnswer : Quoted → ℕ
+numberOfAnswer (Done size losses words) = 0
+numberOfAnswer (Refused r) = numberOf r
+
+abbrev pub countsOfAnswer : Quoted → List ℕ
+countsOfAnswer (Done size losses words) = size ∷ losses ∷ words ∷ []
+countsOfAnswer (Refused r) = 0 ∷ 0 ∷ 0 ∷ []
+
+abbrev pub textOf : Quoted → (text : List ℕ) → List Cell
+textOf (Done size losses words) text = quotes caption (cellsOf text)
+textOf (Refused r) text = []
+
+abbrev pub recordsIn : Quoted → (text : List ℕ) → List ℕ
+recordsIn (Done size losses words) text = lossRecords text (cellsOf text)
+recordsIn (Refused r) text = []
+
+abbrev pub wordsIn : Quoted → (text : List ℕ) → List ℕ
+wordsIn (Done size losses words) text = lossBytes (cellsOf text)
+wordsIn (Refused r) text = []
+
+pub record Filled (x : List Cell) (rs bs : List ℕ) (m k j b : ℕ) (out plain records words : List ℕ) : Type 0 where
+  pub laid : LaidOut x m k out plain
+  pub listed : records ≡ padded j rs
+  pub spelled : words ≡ padded b bs
+
+-- what comes back is r: what it has to be is `wanted`
+pub record Answers (text : List ℕ) (m k j b : ℕ) (wanted r : Quoted) (out plain records words : List ℕ) : Type 0 where
+  pub answer : r ≡ wanted
+  pub filled : Filled (textOf r text) (recordsIn r text) (wordsIn r text) m k j b out plain records words
+
+abbrev pub Called : (text : List ℕ) (m k j b w n : ℕ) (r : Quoted) (out plain records words : List ℕ) → Type 0
+Called text m k j b w n r out plain records words =
+    Answers text m k j b (answered text (record { out = m; origins = k; work = w; numbers = n; spans = Without }) j b) r out plain records words
+
+pub record Listed (original : List ℕ) (x : List Cell) (records words : List ℕ) (losses bytes : ℕ) : Type 0 where
+  pub count : losses ≡ length (quoteLosses x)
+  pub size : bytes ≡ length (lossBytes x)
+  pub records-long : length (lossRecords original x) ≡ 5 * losses
+  pub records-there : take (5 * losses) records ≡ lossRecords original x
+  pub words-there : take bytes words ≡ lossBytes x
+  pub few : losses ≤ length x
+
+-- all of this module, for `unfolding` where a closed call is to be computed
+unfoldable pub computes : Unit {0}
+unfolding spaced converted answered
+computes = tt
