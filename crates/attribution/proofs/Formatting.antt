@@ -22,8 +22,8 @@ use Rattle.text.specs.declared.lent.Checked.the-variants as C
 use Rattle.text.proofs.Clearing.{laid-cleared, cells-bytes}
 use Rattle.text.proofs.Writing.{cells-le, cells-short}
 use Rattle.attribution_parts.specs.Attribution.{caption, losses}
-use Rattle.attribution_parts.specs.Places.{bytes}
-use Rattle.attribution_parts.proofs.Texts.{drop-take}
+use Rattle.attribution_reading.specs.Places.{bytes}
+use Rattle.attribution_reading.proofs.Texts.{drop-take}
 use Rattle.attribution_losses.specs.Captions.{nameTexts}
 use Rattle.attribution_losses.specs.Lists.{Puts, recordsOf, lossWords, Lists}
 use Rattle.attribution_losses.proofs.Losing.{listed-counts}
