@@ -1,4 +1,5 @@
 // Seconds since 1970 as a Gregorian day, YYYY-MM-DD.
+use text::TextAt;
 use text::lent::Refusal;
 use text::zero::zero8;
 ghost use mathlib.Core.Path.{_≡_};
@@ -139,14 +140,14 @@ pub fn unix_seconds_date(text: &[u8], out: &mut [u8]) -> Dated
     ensures { λ r. ⌜ (r ≡ answer (now (text .entry)) (length (now (out .entry)))) × (now (out .exit) ≡ output (now (text .entry)) (length (now (out .entry)))) ⌝ }
 {
     if out.len() < 10 {
-        zero8(out, 0);
+        zero8(out, TextAt(0));
         return Dated::Refused(Refusal::SizesWrong);
     }
     if is_seconds(text) {
         write_day(text, out);
-        zero8(out, 10);
+        zero8(out, TextAt(10));
         return Dated::Done;
     }
-    zero8(out, 0);
+    zero8(out, TextAt(0));
     Dated::Refused(Refusal::NotSeconds)
 }

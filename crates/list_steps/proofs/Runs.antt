@@ -25,7 +25,8 @@ use Rattle.list_steps.proofs.Needs.{tokens-skip, outers-held}
 use Rattle.list_steps.proofs.Standings.{stands-end, stands-text}
 use Rattle.list_blocks.proofs.Values.{begins-long}
 use Rattle.list_steps.proofs.Closes.{no-table}
-use Rattle.list_steps.proofs.Steppings.{some-table, part-take}
+use Rattle.text.proofs.Sources.{cells-taken, cells-sub, part-take}
+use Rattle.list_steps.proofs.Steppings.{some-table}
 
 -- ---- sizes
 
@@ -192,28 +193,6 @@ tag-size y h = by₁ (begins (ascii "[list]") (bytes y)) refl
     by₁ false e = by₂ (begins (ascii "[list=") (bytes y)) refl
 
 -- ---- one token
-
-pub cells-taken : (k : ℕ) (bs ns : List ℕ) → cells (take k bs) (take k ns) ≡ take k (cells bs ns)
-unfolding cells
-cells-taken zero bs ns = refl
-cells-taken (suc k) [] ns = refl
-cells-taken (suc k) (b ∷ bs) [] = refl
-cells-taken (suc k) (b ∷ bs) (n ∷ ns) = ap (λ (l : List Cell). cell b n ∷ l) (cells-taken k bs ns)
-
-cells-none : (bs : List ℕ) → cells bs [] ≡ []
-unfolding cells
-cells-none [] = refl
-cells-none (b ∷ bs) = refl
-
-cells-dropped : (i : ℕ) (bs ns : List ℕ) → cells (drop i bs) (drop i ns) ≡ drop i (cells bs ns)
-unfolding cells
-cells-dropped zero bs ns = refl
-cells-dropped (suc i) [] ns = refl
-cells-dropped (suc i) (b ∷ bs) [] = cells-none (drop i bs)
-cells-dropped (suc i) (b ∷ bs) (n ∷ ns) = cells-dropped i bs ns
-
-pub cells-sub : (bs ns : List ℕ) (i k : ℕ) → cells (take k (drop i bs)) (take k (drop i ns)) ≡ take k (drop i (cells bs ns))
-cells-sub bs ns i k = cells-taken k (drop i bs) (drop i ns) ∙ ap (take k) (cells-dropped i bs ns)
 
 token-step : (t : Tag) (c : Cell) (x : List Cell) (s : State) → step (tokenOf t c x) s ≡ stepBy t (c ∷ x) s
 unfolding step

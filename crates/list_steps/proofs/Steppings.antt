@@ -6,7 +6,8 @@ use Prim.Native.Nat.{ℕ, zero, suc, _+_, _-_, _≤_, _<_}
 use native.Mathlib.Nat.{le-of-suc-le-suc, not-suc-le-zero}
 use native.Mathlib.Omega.{arith}
 use lib.ListN.{length, take, drop, getD, set, length-append, length-set}
-use lib.Seq.{take-add, drop-at, length-take-le, length-slice}
+use lib.Seq.{length-slice}
+use Rattle.text.proofs.Sources.{part-take}
 use Rattle.text.specs.Cells.{Cell, cell, cells, part}
 use Rattle.text.specs.Writes.{Holds, AppendsIn}
 use Rattle.list_blocks.specs.declared.tag.Tag.{Tag}
@@ -21,10 +22,6 @@ use Rattle.list_steps.proofs.Standings.{stands-end, at-is}
 use Rattle.list_steps.proofs.Closes.{table-stays, no-table, ready-framed}
 
 -- ---- the source
-
-pub part-take : (v : List Cell) (i n : ℕ) → i ≤ length v → part i (i + n) v ≡ take n (drop i v)
-unfolding part
-part-take v i n h = ap (drop i) (take-add i n v) ∙ drop-at (take i v) (take n (drop i v)) i (length-take-le i v h)
 
 pub ready-base : (bs ns : List ℕ) (base end at top first : ℕ) (second : Bool) → Ready bs ns base end at top first second → base ≤ at
 ready-base bs ns base end at top first second r =

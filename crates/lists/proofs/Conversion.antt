@@ -1,19 +1,16 @@
 -- Laws of a whole call. Assumes nothing.
 use mathlib.Core.Path.{_≡_, refl, sym, ap, _∙_}
 use mathlib.Core.Bool.{Bool, true, false, cond}
-use mathlib.Core.List.{List, [], _∷_, _++_}
-use Prim.Native.Nat.{ℕ, zero, suc, _+_, _-_, _≤_, _<_}
-use native.Mathlib.Numerals.{add-one}
+use mathlib.Core.List.{List, []}
+use Prim.Native.Nat.{ℕ, _+_, _-_, _≤_, _<_}
 use native.Mathlib.Omega.{arith}
 use native.Mathlib.Decide.{decLe}
-use lib.ListN.{length, take, drop, getD, set}
-use lib.Seq.{take-suc, take-suc-set, take-all, take-length, take-take}
+use lib.ListN.{length}
 use lib.Dec.{ltb}
 use borrow.Author.Tests.{lt-ltb, le-ltb}
 use Rattle.text.specs.Cells.{Cell, cells, cellsOf, part}
 use Rattle.text.specs.Writes.{LaidOut}
 use Rattle.text.specs.declared.lent.Refusal.the-variants.{TooDeep, NoSpace}
-use Rattle.text.proofs.Writing.{cells-short}
 use Rattle.lists.specs.declared.Listed.{Listed}
 use Rattle.lists.specs.declared.Listed.the-variants.{Done, Refused}
 use Rattle.list_blocks.specs.Tags.{tooDeep}
@@ -27,23 +24,6 @@ use Rattle.text.specs.declared.lent.Checked.{Checked}
 use Rattle.text.specs.declared.lent.Checked.the-variants as C
 use Rattle.lists.specs.Calls.{converted, answerBy, answered, textOf, Called, Converted}
 use Rattle.list_steps.proofs.Needs.{lists-fits}
-use Rattle.list_steps.proofs.Steppings.{part-take}
-use Rattle.list_steps.proofs.Runs.{cells-taken, cells-sub}
-
-pub source-turn : (text work : List ℕ) (i : ℕ) → i < length text → i < length work → take i work ≡ take i text → take (i + 1) (set work i (getD text i 0)) ≡ take (i + 1) text
-source-turn text work i h k e = rw (add-one i, take-suc-set work i (getD text i 0) k, take-suc text i 0 h, e)
-
--- the source's cells
-module _ (text bs ns : List ℕ) (n : ℕ) (size : n ≡ length text) (hb : take (length text) bs ≡ text) (hn : cells text ns ≡ cellsOf text) where
-  pub source-front : cells (take n bs) (take n ns) ≡ cellsOf text
-  source-front =
-      ap (λ (k : ℕ). cells (take k bs) (take k ns)) size ∙ ap (λ (l : List ℕ). cells l (take (length text) ns)) hb
-      ∙ ap (λ (l : List ℕ). cells l (take (length text) ns)) (sym (take-length text)) ∙ cells-taken (length text) text ns
-      ∙ take-all (length text) (cells text ns) (cells-short text ns) ∙ hn
-
-  pub source-part : part 0 n (cells bs ns) ≡ cellsOf text
-  unfolding part
-  source-part = sym (cells-taken n bs ns) ∙ source-front
 
 pub called-deep : (text : List ℕ) (x : List Cell) (m k : ℕ) (r : Listed) (t : Bool) {out plain : List ℕ} → x ≡ cellsOf text → t ≡ tooDeep x → t ≡ true → r ≡ Refused TooDeep
     → LaidOut [] m k out plain → Converted text m k r out plain
@@ -68,20 +48,15 @@ module _ (text : List ℕ) (x y : List Cell) (m k base end r : ℕ) (t : Bool) (
       let over : m < listsNeed (cellsOf text) = elim (decLe (listsNeed y) m) [ yes h ↦ absurd (let w = p .done h .0 in omega arith) | no h ↦ omega arith ] in
       rw g (record { answer = rw (fine, lt-ltb m (listsNeed (cellsOf text)) over); laid = laid })
 
-  pub called-done : (size : ℕ) {out plain : List ℕ} → r ≤ end → base ≤ r → base ≤ length (cells bs ns) → size ≡ r - base
-      → LaidOut (take size (cells (take (r - base) (drop base bs)) (take (r - base) (drop base ns)))) m k out plain
+  pub called-done : (size : ℕ) {out plain : List ℕ} → r ≤ end → base ≤ r → size ≡ r - base → LaidOut (part base r (cells bs ns)) m k out plain
       → Converted text m k (Done size) out plain
   unfolding converted
-  called-done size fit up in-cells g laid =
+  called-done size fit up g laid =
       let n = same-need in
       let in-room : listsNeed y ≤ m = elim (decLe (listsNeed y) m) [ yes h ↦ h | no h ↦ absurd (let w = p .full (omega arith) in omega arith) ] in
       let w = p .done in-room in
       let s : size ≡ length (lists (cellsOf text)) = (let a = w .0 in let b : length (lists y) ≡ length (lists (cellsOf text)) = ap (λ (c : List Cell). length (lists c)) z in omega arith) in
-      let e' : base + (r - base) ≡ r = omega arith in
-      let c : take size (cells (take (r - base) (drop base bs)) (take (r - base) (drop base ns))) ≡ lists (cellsOf text) =
-      ap (take size) (cells-sub bs ns base (r - base)) ∙ take-take size (r - base) (drop base (cells bs ns)) (omega arith)
-      ∙ ap (λ (j : ℕ). take j (drop base (cells bs ns))) g
-      ∙ sym (part-take (cells bs ns) base (r - base) in-cells) ∙ ap (λ (j : ℕ). part base j (cells bs ns)) e' ∙ w .1 ∙ ap lists z in
+      let c : part base r (cells bs ns) ≡ lists (cellsOf text) = w .1 ∙ ap lists z in
       record { answer = rw (fine, le-ltb m (listsNeed (cellsOf text)) (omega arith), s); laid = rw (← c) laid }
 
 -- the text stands behind the base

@@ -16,7 +16,8 @@ use Rattle.list_blocks.specs.Tags.{Token, tagAt, tokenOf, restOf, tokens, depth
 use Rattle.list_steps.specs.Standing.{depthBy}
 use Rattle.list_steps.proofs.Needs.{tokens-skip}
 use Rattle.list_blocks.proofs.Values.{cells-length}
-use Rattle.list_steps.proofs.Runs.{cells-sub, tag-size}
+use Rattle.text.proofs.Sources.{cells-sub}
+use Rattle.list_steps.proofs.Runs.{tag-size}
 
 depth-after : (t : Tag) (c : Cell) (x : List Cell) (d : ℕ) → depthAfter d (tokenOf t c x) ≡ depthBy t d
 unfolding depthAfter

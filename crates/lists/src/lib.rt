@@ -1,13 +1,16 @@
 // Lists to Carve text (document 01, "Lists").
 use depth::too_deep;
 use list_steps::pass::list_pass;
+use text::PostAt;
 use text::blank::number;
 use text::lent::Checked;
 use text::lent::Lent;
 use text::lent::Refusal;
 use text::lent::Spans;
 use text::lent::check;
-use text::write::lay_out;
+use text::source::set_source;
+use text::write::lay_nothing;
+use text::write::lay_part;
 ghost use mathlib.Core.Path.{_≡_};
 ghost use Prim.Native.Nat.{_+_, _-_, _*_, _≤_};
 ghost use mathlib.Core.List.{[]};
@@ -26,23 +29,11 @@ pub enum Listed {
     Refused(Refusal),
 }
 
-// Copies a text to the front of a slice.
-fn set_source(text: &[u8], work: &mut [u8])
-    requires { ⌜ length (now text) ≤ length (now work) ⌝ }
-    ensures { λ _. ⌜ take (length (now (text .entry))) (now (work .exit)) ≡ now (text .entry) ⌝ }
-{
-    let mut i: usize = 0;
-    while i < text.len() {
-        work[i] = text[i];
-        i += 1;
-    }
-}
-
 // A refusal: all that is lent for the result is zero.
-fn refuse(r: Refusal, work: &[u8], numbers: &[u32], out: &mut [u8], origins: &mut [u32]) -> Listed
+fn refuse(r: Refusal, out: &mut [u8], origins: &mut [u32]) -> Listed
     ensures { λ l. ⌜ (l ≡ Refused r) × LaidOut [] (length (now (out .entry))) (length (now (origins .entry))) (now (out .exit)) (now (origins .exit)) ⌝ }
 {
-    lay_out(work, numbers, 0, out, origins);
+    lay_nothing(out, origins);
     Listed::Refused(r)
 }
 
@@ -52,23 +43,6 @@ fn is_deep(n: usize, work: &[u8], numbers: &[u32]) -> bool
     ensures { λ r. ⌜ r ≡ tooDeep (cells (take n (now (work .entry))) (take n (now (numbers .entry)))) ⌝ }
 {
     too_deep(&work[..n], &numbers[..n])
-}
-
-// Lays out the cells from base up to r.
-fn lay_part(
-    base: usize,
-    r: usize,
-    work: &[u8],
-    numbers: &[u32],
-    out: &mut [u8],
-    origins: &mut [u32],
-) -> Listed
-    requires { ⌜ ((base ≤ r) × ((r ≤ length (now work)) × (r ≤ length (now numbers)))) × ((r ≤ base + length (now out)) × (length (now out) ≤ length (now origins))) ⌝ }
-    ensures { λ l. ⌜ (l ≡ Done (r - base)) × LaidOut (take (r - base) (cells (take (r - base) (drop base (now (work .entry)))) (take (r - base) (drop base (now (numbers .entry)))))) (length (now (out .entry))) (length (now (origins .entry))) (now (out .exit)) (now (origins .exit)) ⌝ }
-{
-    let size = r - base;
-    lay_out(&work[base..r], &numbers[base..r], size, out, origins);
-    Listed::Done(size)
 }
 
 // Converts a text that is right, in memory that is large enough.
@@ -87,13 +61,14 @@ fn convert(
     number(text, numbers);
     set_source(text, work);
     if is_deep(n, work, numbers) {
-        return refuse(Refusal::TooDeep, work, numbers, out, origins);
+        return refuse(Refusal::TooDeep, out, origins);
     }
     let r = list_pass(0, n, n, end, work, numbers, out, origins);
     if end < r {
-        return refuse(Refusal::NoSpace, work, numbers, out, origins);
+        return refuse(Refusal::NoSpace, out, origins);
     }
-    lay_part(n, r, work, numbers, out, origins)
+    lay_part(work, numbers, PostAt(n), PostAt(r), out, origins);
+    Listed::Done(r - n)
 }
 
 // Lends the conversion as many numbers as document 01 asks for: more than a `u32` can count may be lent.
@@ -132,7 +107,7 @@ pub fn convert_lists(
         },
     );
     match checked {
-        Checked::Refused(r) => refuse(r, work, numbers, out, origins),
+        Checked::Refused(r) => refuse(r, out, origins),
         Checked::Fine => convert_in(text, work, numbers, out, origins),
     }
 }

@@ -46,6 +46,10 @@ laid-cleared xs out n m h k e = rw (h, k, e)
 pub length-mapped : (f : ℕ → ℕ) (xs : List ℕ) (n : ℕ) → n ≤ length xs → length (map f (take n xs)) ≡ n
 length-mapped f xs n h = length-map (take n xs) f ∙ length-take-le n xs h
 
+pub cleared-all : (xs : List ℕ) → cleared 0 xs ≡ padded (length xs) []
+unfolding cleared padded
+cleared-all xs = refl
+
 -- the bytes and the origins of a pair of slices
 pub cells-bytes : (n : ℕ) (bs ns : List ℕ) → n ≤ length bs → n ≤ length ns → bytes (take n (cells bs ns)) ≡ take n bs
 unfolding cells

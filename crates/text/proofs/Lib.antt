@@ -10,3 +10,5 @@ pub mod Lending
 pub mod SplitLaws
 pub mod Copying
 pub mod Areas
+pub mod Sources
+pub mod Sizes

@@ -9,7 +9,7 @@ use native.Mathlib.Omega.{arith}
 use mathlib.Core.List.{List, [], _∷_, _++_, map, append-nil, append-assoc}
 use lib.ListN.{length, take, drop, getD, set, drop-of-length-le}
 use lib.Seq.{drop-cons, take-suc-set, take-all, append-snoc}
-use Rattle.text.specs.Cells.{Cell, cell, cells, blankAt, moreAfter, Placed, cellsFrom, cellsOf, written, sign}
+use Rattle.text.specs.Cells.{Cell, cell, cells, blankAt, moreAfter, cellsFrom, cellsOf, written, sign}
 use Rattle.text.proofs.Writing.{cells-in, cells-short}
 
 -- the number of a cell stands for it
@@ -27,8 +27,12 @@ at-most-one : (f : ℕ) (t : Bool) → f ≡ cond t 1 0 → f ≤ 1
 at-most-one f true e = omega arith
 at-most-one f false e = omega arith
 
+-- what `place_at` says of the first byte of s: 1 where its character is blank, else 0; and how many bytes are left of a blank one behind it
+abbrev pub Placed : (more : ℕ) → List ℕ → (flag more' : ℕ) → Type 0
+Placed more s flag more' = (flag ≡ cond (blankAt more s) 1 0) × (more' ≡ moreAfter more s)
+
 pub placed-small : (more f more' : ℕ) (s : List ℕ) → Placed more s f more' → f ≤ 1
-placed-small more f more' s p = at-most-one f (blankAt more s) (p .blank)
+placed-small more f more' s p = at-most-one f (blankAt more s) (p .0)
 
 from-cons : (next : ℕ → ℕ) (o more b : ℕ) (s : List ℕ)
     → cellsFrom next o more (b ∷ s) ≡ record { byte = b; origin = o; blank = blankAt more (b ∷ s) } ∷ cellsFrom next (next o) (moreAfter more (b ∷ s)) s
@@ -39,8 +43,8 @@ from-cons next o more b s = refl
 pub from-turn : (next : ℕ → ℕ) (o more f more' i : ℕ) (s : List ℕ) → i < length s → Placed more (drop i s) f more'
     → cellsFrom next o more (drop i s) ≡ cell (getD s i 0) (2 * o + f) ∷ cellsFrom next (next o) more' (drop (i + 1) s)
 from-turn next o more f more' i s h p =
-    let e : cell (getD s i 0) (2 * o + f) ≡ record { byte = getD s i 0; origin = o; blank = blankAt more (drop i s) } = cell-number (getD s i 0) o f (blankAt more (drop i s)) (p .blank) in
-    rw (e, p .left, add-one, drop-cons s i 0 h, from-cons)
+    let e : cell (getD s i 0) (2 * o + f) ≡ record { byte = getD s i 0; origin = o; blank = blankAt more (drop i s) } = cell-number (getD s i 0) o f (blankAt more (drop i s)) (p .0) in
+    rw (e, p .1, add-one, drop-cons s i 0 h, from-cons)
 
 pub from-end : (next : ℕ → ℕ) (o more i : ℕ) (s : List ℕ) → length s ≤ i → cellsFrom next o more (drop i s) ≡ []
 unfolding cellsFrom

@@ -38,11 +38,6 @@ blankAt more s = ltb 0 more || ltb 0 (blankSize s)
 unfoldable pub moreAfter : (more : ℕ) → List ℕ → ℕ
 moreAfter more s = cond (ltb 0 more) (more - 1) (blankSize s - 1)
 
--- of the first byte of s: 1 where its character is blank, else 0; and how many bytes are left of a blank one behind it
-pub record Placed (more : ℕ) (s : List ℕ) (flag more' : ℕ) : Type 0 where
-  pub blank : flag ≡ cond (blankAt more s) 1 0
-  pub left : more' ≡ moreAfter more s
-
 -- the first byte has the origin o, and the one behind a byte with the origin p has the origin `next p`
 unfoldable pub cellsFrom : (next : ℕ → ℕ) → (o more : ℕ) → List ℕ → List Cell
 cellsFrom next o more [] = []

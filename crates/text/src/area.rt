@@ -4,8 +4,7 @@ use crate::PostAt;
 use crate::TextAt;
 ghost use mathlib.Core.Path.{_≡_};
 ghost use mathlib.Core.List.{[], _∷_};
-ghost use Prim.Native.Nat.{_≤_};
-ghost use lib.Dec.{ltb};
+ghost use Prim.Native.Nat.{_-_, _≤_};
 ghost use lib.ListN.{length};
 ghost use Rattle.text.specs.Cells.{cell, cells, part};
 ghost use Rattle.text.specs.Writes.{AppendsIn};
@@ -13,11 +12,15 @@ ghost use Rattle.text.specs.Writes.{AppendsIn};
 // The place past every slice's end.
 const FULL: usize = 0xffff_ffff_ffff_ffff;
 
-// Whether a cell fits at a place.
-fn has_room(at: usize, end: usize) -> bool
-    ensures { λ r. ⌜ r ≡ ltb at end ⌝ }
+// How many cells fit from a place on.
+fn room(at: TextAt, end: usize) -> usize
+    ensures { λ r. ⌜ r ≡ end - at .0 ⌝ }
 {
-    at < end
+    let i = at.0;
+    if i < end {
+        return end - i;
+    }
+    0
 }
 
 // Appends one cell.
@@ -26,7 +29,7 @@ pub fn put_in(buf: &mut [u8], nums: &mut [u32], end: usize, at: TextAt, b: u8, x
     ensures { λ r. ⌜ AppendsIn (now (buf .entry)) (now (nums .entry)) end (at .0) (now (buf .exit)) (now (nums .exit)) (r .0) (cell b x ∷ []) ⌝ }
 {
     let i = at.0;
-    if has_room(i, end) {
+    if 0 < room(at, end) {
         buf[i] = b;
         nums[i] = x;
         return TextAt(i + 1);

@@ -1,11 +1,13 @@
 // The 25 blank characters, and the cells of a post.
+use crate::PostAt;
 use crate::scan::byte_at;
 use crate::scan::is_inside;
 ghost use mathlib.Core.Path.{_≡_};
+ghost use mathlib.Core.Bool.{cond};
 ghost use Prim.Native.Nat.{_≤_, _<_};
 ghost use lib.ListN.{length, drop};
 ghost use Rattle.text.specs.Blanks.{blank1, blank2, blankE280, blank3, blankWidth, blankSize};
-ghost use Rattle.text.specs.Cells.{cells, cellsOf, Placed};
+ghost use Rattle.text.specs.Cells.{blankAt, moreAfter, cells, cellsOf};
 
 fn is_blank1(a: u8) -> bool
     ensures { λ r. ⌜ r ≡ blank1 a ⌝ }
@@ -100,10 +102,10 @@ pub struct Place {
     pub more: usize,
 }
 
-// The place of the byte at i, where `more` bytes are left of a blank character that began before it.
-pub fn place_at(s: &[u8], i: usize, more: usize) -> Place
-    requires { ⌜ i < length (now s) ⌝ }
-    ensures { λ r. ⌜ Placed more (drop i (now (s .entry))) (r .blank) (r .more) ⌝ }
+// The place of the byte at a place, where `more` bytes are left of a blank character that began before it.
+pub fn place_at(s: &[u8], at: PostAt, more: usize) -> Place
+    requires { ⌜ at .0 < length (now s) ⌝ }
+    ensures { λ r. ⌜ (r .blank ≡ cond (blankAt more (drop (at .0) (now (s .entry)))) 1 0) × (r .more ≡ moreAfter more (drop (at .0) (now (s .entry)))) ⌝ }
 {
     if 0 < more {
         return Place {
@@ -111,7 +113,7 @@ pub fn place_at(s: &[u8], i: usize, more: usize) -> Place
             more: more - 1,
         };
     }
-    let n = blank_size(s, i);
+    let n = blank_size(s, at.0);
     if n == 0 {
         return Place { blank: 0, more: 0 };
     }
@@ -129,7 +131,7 @@ pub fn number(s: &[u8], nums: &mut [u32])
     let mut more: usize = 0;
     let mut i: usize = 0;
     while i < s.len() {
-        let p = place_at(s, i, more);
+        let p = place_at(s, PostAt(i), more);
         nums[i] = 2 * ((i + 1) as u32) + p.blank;
         more = p.more;
         i += 1;

@@ -3,6 +3,7 @@ pub mod area;
 pub mod blank;
 pub mod lent;
 pub mod scan;
+pub mod source;
 pub mod trim;
 pub mod utf8;
 pub mod write;

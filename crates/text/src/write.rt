@@ -6,7 +6,7 @@ use crate::zero::zero8;
 use crate::zero::zero32;
 ghost use mathlib.Core.Path.{_≡_};
 ghost use mathlib.Core.List.{[], _∷_, map};
-ghost use Prim.Native.Nat.{_/_, _≤_};
+ghost use Prim.Native.Nat.{_+_, _/_, _≤_};
 ghost use lib.ListN.{length, take};
 ghost use Rattle.text.specs.Cells.{cell, cells, part, written, feed, sign};
 ghost use Rattle.text.specs.Decimal.{decimal};
@@ -75,7 +75,7 @@ pub fn put_text(src: &[u8], buf: &mut [u8], nums: &mut [u32], at: TextAt) -> Tex
     let mut i: usize = 0;
     let mut to = at;
     while i < src.len() {
-        let p = place_at(src, i, more);
+        let p = place_at(src, PostAt(i), more);
         to = put(buf, nums, to, src[i], p.blank);
         more = p.more;
         i += 1;
@@ -104,7 +104,7 @@ fn lay_bytes(src: &[u8], n: usize, out: &mut [u8])
         out[i] = src[i];
         i += 1;
     }
-    zero8(out, n);
+    zero8(out, TextAt(n));
 }
 
 // Lays out the origins of the first n numbers of a source, with zeros behind them.
@@ -117,7 +117,7 @@ fn lay_origins(from: &[u32], n: usize, plain: &mut [u32])
         plain[i] = from[i] / 2;
         i += 1;
     }
-    zero32(plain, n);
+    zero32(plain, TextAt(n));
 }
 
 // Lays out the first n cells of a source as text and origins, with zeros behind them.
@@ -127,4 +127,22 @@ pub fn lay_out(src: &[u8], from: &[u32], n: usize, out: &mut [u8], plain: &mut [
 {
     lay_bytes(src, n, out);
     lay_origins(from, n, plain);
+}
+
+// Lays out the cells of a source from a up to e as text and origins, with zeros behind them.
+pub fn lay_part(src: &[u8], from: &[u32], a: PostAt, e: PostAt, out: &mut [u8], plain: &mut [u32])
+    requires { ⌜ ((a .0 ≤ e .0) × ((e .0 ≤ length (now src)) × (e .0 ≤ length (now from)))) × ((e .0 ≤ a .0 + length (now out)) × (e .0 ≤ a .0 + length (now plain))) ⌝ }
+    ensures { λ _. ⌜ LaidOut (part (a .0) (e .0) (cells (now (src .entry)) (now (from .entry)))) (length (now (out .entry))) (length (now (plain .entry))) (now (out .exit)) (now (plain .exit)) ⌝ }
+{
+    let i = a.0;
+    let j = e.0;
+    lay_out(&src[i..j], &from[i..j], j - i, out, plain);
+}
+
+// Lays out nothing: zeros.
+pub fn lay_nothing(out: &mut [u8], plain: &mut [u32])
+    ensures { λ _. ⌜ LaidOut [] (length (now (out .entry))) (length (now (plain .entry))) (now (out .exit)) (now (plain .exit)) ⌝ }
+{
+    zero8(out, TextAt(0));
+    zero32(plain, TextAt(0));
 }

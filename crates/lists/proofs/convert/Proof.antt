@@ -5,18 +5,18 @@ use Prim.Native.Nat.{ℕ, suc, _+_, _-_, _≤_, _<_}
 use mathlib.Core.List.{List, [], _∷_, _++_}
 use lib.ListN.{length, getD}
 use lib.ListN.{take}
-use Rattle.lists.proofs.Conversion.{source-front, source-part, called-deep, called-full, called-done, passed-up}
-use Rattle.text.proofs.Writing.{cells-le}
+use Rattle.text.proofs.Sources.{source-front, source-part}
+use Rattle.lists.proofs.Conversion.{called-deep, called-full, called-done, passed-up}
 use Rattle.text.specs.Cells.{cells}
 use Rattle.lists.proofs.convert.Statement.{statement}
 use Rattle.lists.proofs.convert.Tie as tie
 use Rattle.lists.proofs.convert.Reads as reads
 use Rattle.lists.proofs.convert.Lts as lts
 use Rattle.lists.proofs.is_deep.Reads as is-deep-reads
-use Rattle.lists.proofs.lay_part.Reads as lay-part-reads
+use Rattle.text.proofs.write.lay_part.Reads as lay-part-reads
 use Rattle.list_steps.proofs.pass.list_pass.Reads as list-pass-reads
 use Rattle.lists.proofs.refuse.Reads as refuse-reads
-use Rattle.lists.proofs.set_source.Reads as set-source-reads
+use Rattle.text.proofs.source.set_source.Reads as set-source-reads
 use Rattle.text.proofs.blank.number.Reads as number-reads
 
 add-end : tie.Need-add-end
@@ -48,8 +48,7 @@ same-length-4 c = search needs
 
 returns : tie.Need-returns
 returns c =
-    called-deep _ _ _ _ _ _ (source-front _ _ _ _ refl (c .before .before .before .before .before .before .before .before .before .before .before .before .before .before .before .set-source .ensures) (c .before .before .before .before .before .before .before .before .before .before .before .before .before .before .before .before .before .before .before .number .ensures)) (c .before .before .before .before .before .before .before .before .before .before .is-deep .ensures) (c .before .before .before .before .before .before .before .before .before .if1 .taken)
-    (c .before .before .before .before .refuse .ensures .0) (c .before .before .before .before .refuse .ensures .1)
+    called-deep _ _ _ _ _ _ (source-front _ _ _ _ refl (c .before .before .before .before .before .before .before .before .before .before .before .before .before .set-source .ensures) (c .before .before .before .before .before .before .before .before .before .before .before .before .before .before .before .before .before .number .ensures)) (c .before .before .before .before .before .before .before .before .is-deep .ensures) (c .before .before .before .before .before .before .before .if1 .taken) (c .before .before .before .before .refuse .ensures .0) (c .before .before .before .before .refuse .ensures .1)
 
 list-pass-requires : tie.Need-list-pass-requires
 list-pass-requires c κs = search needs
@@ -71,11 +70,11 @@ same-length-8 c = search needs
 
 returns-2 : tie.Need-returns-2
 returns-2 c =
-    let hb = c .before .before .before .before .before .before .before .before .before .before .before .before .before .before .before .before .before .before .before .before .before .before .before .before .before .before .before .before .before .set-source .ensures in
-    let hn = c .before .before .before .before .before .before .before .before .before .before .before .before .before .before .before .before .before .before .before .before .before .before .before .before .before .before .before .before .before .before .before .before .before .number .ensures in
-    let p = c .before .before .before .before .before .before .before .before .before .before .before .before .before .before .before .before .before .before in
-    called-full _ _ _ _ _ _ _ _ _ _ _ (source-front _ _ _ _ refl hb hn) (source-part _ _ _ _ refl hb hn) (c .before .before .before .before .before .before .before .before .before .before .before .before .before .before .before .before .before .before .before .before .before .before .before .before .is-deep .ensures) (c .before .before .before .before .before .before .before .before .before .before .before .before .before .before .before .before .before .before .before .before .before .before .before .if1 .left) refl (p .list-pass .ensures)
-    _ (c .before .before .before .before .before .before .before .before .before .if2 .taken) (c .before .before .before .before .refuse2 .ensures .0) (rw (p .list-pass .kept .1 .1 .1 .1 .1 .1 .0, p .list-pass .kept .1 .1 .1 .1 .1 .1 .1 .0) at (c .before .before .before .before .refuse2 .ensures .1))
+    let hb = c .before .before .before .before .before .before .before .before .before .before .before .before .before .before .before .before .before .before .before .before .before .before .before .before .before .before .before .set-source .ensures in
+    let hn = c .before .before .before .before .before .before .before .before .before .before .before .before .before .before .before .before .before .before .before .before .before .before .before .before .before .before .before .before .before .before .before .number .ensures in
+    let p = c .before .before .before .before .before .before .before .before .before .before .before .before .before .before .before .before in
+    called-full _ _ _ _ _ _ _ _ _ _ _ (source-front _ _ _ _ refl hb hn) (source-part _ _ _ _ refl hb hn) (c .before .before .before .before .before .before .before .before .before .before .before .before .before .before .before .before .before .before .before .before .before .before .is-deep .ensures) (c .before .before .before .before .before .before .before .before .before .before .before .before .before .before .before .before .before .before .before .before .before .if1 .left) refl (p .list-pass .ensures)
+    _ (c .before .before .before .before .before .before .before .if2 .taken) (c .before .before .before .before .refuse2 .ensures .0) (rw (p .list-pass .kept .1 .1 .1 .1 .1 .1 .0, p .list-pass .kept .1 .1 .1 .1 .1 .1 .1 .0) at (c .before .before .before .before .refuse2 .ensures .1))
 
 lay-part-requires : tie.Need-lay-part-requires
 lay-part-requires c κs =
@@ -87,6 +86,9 @@ lay-part-requires c κs =
     let lg = p .list-pass .kept .1 .1 .1 .1 .1 .1 .1 .0 in
     let up = passed-up _ _ _ _ _ _ _ refl (p .list-pass .ensures) (c .before .before .before .before .if2 .left) in
     search needs
+
+sub-t9 : tie.Need-sub-t9
+sub-t9 c = let up = passed-up _ _ _ _ _ _ _ refl (c .before .before .before .before .before .before .before .before .before .before .before .before .before .before .before .before .before .before .list-pass .ensures) (c .before .before .before .before .before .before .before .before .before .if2 .left) in omega arith
 
 same-length-9 : tie.Need-same-length-9
 same-length-9 c = search needs
@@ -105,15 +107,11 @@ returns-3 c =
     let hb = c .before .before .before .before .before .before .before .before .before .before .before .before .before .before .before .before .before .before .before .before .before .before .before .before .before .before .before .before .before .set-source .ensures in
     let hn = c .before .before .before .before .before .before .before .before .before .before .before .before .before .before .before .before .before .before .before .before .before .before .before .before .before .before .before .before .before .before .before .before .before .number .ensures in
     let p = c .before .before .before .before .before .before .before .before .before .before .before .before .before .before .before .before .before .before in
-    let pre = c .before .before .before .before .before .before .before .before .before .before .before .before .before .before .before .before .before .before .before .before .before .before .before .before .before .before .before .before .before .before .before .before .before .before .before .before .before .before .before .before .pre in
-    let lw = p .list-pass .kept .1 .1 .1 .1 .0 in
-    let ln = p .list-pass .kept .1 .1 .1 .1 .1 .0 in
     let fit = c .before .before .before .before .before .before .before .before .before .if2 .left in
     let up = passed-up _ _ _ _ _ _ _ refl (p .list-pass .ensures) fit in
-    let laid = rw (p .list-pass .kept .1 .1 .1 .1 .1 .1 .0, p .list-pass .kept .1 .1 .1 .1 .1 .1 .1 .0) at (c .before .before .before .before .lay-part .ensures .1) in
-    rw (c .before .before .before .before .lay-part .ensures .0)
-    (called-done _ _ _ _ _ _ _ _ _ _ _ (source-front _ _ _ _ refl hb hn) (source-part _ _ _ _ refl hb hn) (c .before .before .before .before .before .before .before .before .before .before .before .before .before .before .before .before .before .before .before .before .before .before .before .before .is-deep .ensures) (c .before .before .before .before .before .before .before .before .before .before .before .before .before .before .before .before .before .before .before .before .before .before .before .if1 .left) refl (p .list-pass .ensures)
-    _ fit up (cells-le _ _ (length (c .before .before .before .before .before .before .before .before .before .before .before .before .before .before .before .before .before .before .before .before .before .before .before .before .before .before .before .before .before .before .before .before .before .before .before .before .before .before .before .before .args .text .now)) (omega arith) (omega arith)) refl laid)
+    let laid = rw (p .list-pass .kept .1 .1 .1 .1 .1 .1 .0, p .list-pass .kept .1 .1 .1 .1 .1 .1 .1 .0) at (c .before .before .before .before .lay-part .ensures) in
+    called-done _ _ _ _ _ _ _ _ _ _ _ (source-front _ _ _ _ refl hb hn) (source-part _ _ _ _ refl hb hn) (c .before .before .before .before .before .before .before .before .before .before .before .before .before .before .before .before .before .before .before .before .before .before .before .before .is-deep .ensures) (c .before .before .before .before .before .before .before .before .before .before .before .before .before .before .before .before .before .before .before .before .before .before .before .if1 .left) refl (p .list-pass .ensures)
+    _ fit up refl laid
 
 pub convert-spec : {M : Type 1} → statement M
 convert-spec =
@@ -137,6 +135,7 @@ convert-spec =
     same-length-8
     returns-2
     lay-part-requires
+    sub-t9
     same-length-9
     same-length-10
     same-length-11

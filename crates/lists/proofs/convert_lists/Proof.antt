@@ -5,7 +5,7 @@ use Prim.Native.Nat.{ℕ, suc, _+_, _-_, _≤_, _<_}
 use mathlib.Core.List.{List, [], _∷_, _++_}
 use lib.ListN.{length, getD}
 use Rattle.lists.proofs.Conversion.{called-refused, called-fine}
-use Rattle.lists.proofs.Sizes.{enough}
+use Rattle.text.proofs.Sizes.{enough}
 use Rattle.lists.proofs.convert_lists.Statement.{statement}
 use Rattle.lists.proofs.convert_lists.Tie as tie
 use Rattle.lists.proofs.convert_lists.Reads as reads
@@ -44,19 +44,13 @@ same-length-4 : tie.Need-same-length-4
 same-length-4 c = search needs
 
 returns : tie.Need-returns
-returns c = called-refused _ _ _ _ _ _ _ (c .before .before .before .before .before .before .before .before .before .before .before .before .check .ensures) _ (c .before .before .before .before .before .before .before .before .before .before .checked .given .1) (c .before .before .before .before .refuse .ensures .0) (c .before .before .before .before .refuse .ensures .1)
+returns c = called-refused _ _ _ _ _ _ _ (c .before .before .before .before .before .before .before .before .before .before .check .ensures) _ (c .before .before .before .before .before .before .before .before .checked .given .1) (c .before .before .before .before .refuse .ensures .0) (c .before .before .before .before .refuse .ensures .1)
 
 same-length-5 : tie.Need-same-length-5
 same-length-5 c = search needs
 
 same-length-6 : tie.Need-same-length-6
 same-length-6 c = search needs
-
-same-length-7 : tie.Need-same-length-7
-same-length-7 c = search needs
-
-same-length-8 : tie.Need-same-length-8
-same-length-8 c = search needs
 
 returns-2 : tie.Need-returns-2
 returns-2 c = called-fine _ _ _ _ _ _ _ (c .before .before .before .before .before .before .before .before .before .before .before .before .before .before .before .check .ensures) (c .before .before .before .before .before .before .before .before .before .before .before .before .before .enum-told .given .1) (c .before .before .before .before .before .before .before .before .convert-in .ensures)
@@ -72,11 +66,9 @@ convert-lists-spec =
     convert-in-requires
     same-length
     same-length-2
+    returns
     same-length-3
     same-length-4
-    returns
     same-length-5
     same-length-6
-    same-length-7
-    same-length-8
     returns-2)

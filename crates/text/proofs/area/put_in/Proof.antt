@@ -4,28 +4,27 @@ use mathlib.Core.Path.{_≡_, refl, sym, ap, _∙_}
 use Prim.Native.Nat.{ℕ, suc, _+_, _-_, _≤_, _<_}
 use mathlib.Core.List.{List, [], _∷_, _++_}
 use lib.ListN.{length, getD}
-use borrow.Author.Tests.{ltb-true, ltb-false}
 use Rattle.text.proofs.Areas.{appendsIn-set, appendsIn-full}
 use Rattle.text.proofs.area.put_in.Statement.{statement}
 use Rattle.text.proofs.area.put_in.Tie as tie
 use Rattle.text.proofs.area.put_in.Reads as reads
 use Rattle.text.proofs.area.put_in.Lts as lts
-use Rattle.text.proofs.area.has_room.Reads as has-room-reads
+use Rattle.text.proofs.area.room.Reads as room-reads
 
-has-room-requires : tie.Need-has-room-requires
-has-room-requires c κs = search needs
+room-requires : tie.Need-room-requires
+room-requires c κs = search needs
 
 slice-write-buf : tie.Need-slice-write-buf
-slice-write-buf c = let a = c .before .before .before .before .args in let h : a .at .0 < a .end = ltb-true _ _ (sym (c .before .has-room .ensures) ∙ c .if1 .taken) in omega arith
+slice-write-buf c = let a = c .before .before .before .before .args in let h : a .at .0 < a .end = omega (arith, c .before .room .ensures, c .if1 .taken) in omega arith
 
 mul-nums : tie.Need-mul-nums
-mul-nums c = let a = c .before .before .before .before .args in let h : a .at .0 < a .end = ltb-true _ _ (sym (c .before .has-room .ensures) ∙ c .if1 .taken) in omega arith
+mul-nums c = let a = c .before .before .before .before .args in let h : a .at .0 < a .end = omega (arith, c .before .room .ensures, c .if1 .taken) in omega arith
 
 slice-write-nums : tie.Need-slice-write-nums
-slice-write-nums c = let a = c .before .before .before .before .args in let h : a .at .0 < a .end = ltb-true _ _ (sym (c .before .has-room .ensures) ∙ c .if1 .taken) in omega arith
+slice-write-nums c = let a = c .before .before .before .before .args in let h : a .at .0 < a .end = omega (arith, c .before .room .ensures, c .if1 .taken) in omega arith
 
-add-t10 : tie.Need-add-t10
-add-t10 c = let a = c .before .before .before .before .args in let h : a .at .0 < a .end = ltb-true _ _ (sym (c .before .has-room .ensures) ∙ c .if1 .taken) in omega arith
+add-t11 : tie.Need-add-t11
+add-t11 c = let a = c .before .before .before .before .args in let h : a .at .0 < a .end = omega (arith, c .before .room .ensures, c .if1 .taken) in omega arith
 
 same-length : tie.Need-same-length
 same-length c = search needs
@@ -36,24 +35,24 @@ same-length-2 c = search needs
 returns : tie.Need-returns
 returns c =
     let a = c .before .before .before .before .args in
-    let h : a .at .0 < a .end = ltb-true _ _ (sym (c .before .has-room .ensures) ∙ c .if1 .taken) in
+    let h : a .at .0 < a .end = omega (arith, c .before .room .ensures, c .if1 .taken) in
     appendsIn-set (a .buf .now) (a .nums .now) (a .end) (omega arith) (omega arith) (a .at .0) (a .b) (a .x) (omega arith)
 
 returns-2 : tie.Need-returns-2
 returns-2 c =
     let a = c .before .before .before .before .args in
-    let h : a .end ≤ a .at .0 = ltb-false _ _ (sym (c .before .has-room .ensures) ∙ c .if1 .left) in
+    let h : a .end ≤ a .at .0 = omega (arith, c .before .room .ensures, c .if1 .left) in
     appendsIn-full (a .buf .now) (a .nums .now) (a .end) (omega arith) (omega arith) (a .at .0) (a .b) (a .x) 18446744073709551615 (omega arith) (omega arith) (omega arith)
 
 pub put-in-spec : {M : Type 1} → statement M
 put-in-spec =
     tie.close
     (tie.spec
-    has-room-requires
+    room-requires
     slice-write-buf
     mul-nums
     slice-write-nums
-    add-t10
+    add-t11
     same-length
     same-length-2
     returns

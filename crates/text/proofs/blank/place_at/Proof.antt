@@ -7,7 +7,7 @@ use lib.ListN.{length, getD}
 use lib.ListN.{drop}
 use borrow.Author.Tests.{lt-ltb, le-ltb}
 use Rattle.text.proofs.Decide.{decide}
-use Rattle.text.specs.Cells.{Placed, blankAt, moreAfter}
+use Rattle.text.specs.Cells.{blankAt, moreAfter}
 use Rattle.text.proofs.blank.place_at.Statement.{statement}
 use Rattle.text.proofs.blank.place_at.Tie as tie
 use Rattle.text.proofs.blank.place_at.Reads as reads
@@ -19,7 +19,7 @@ sub-t6 c = search needs
 
 returns : tie.Need-returns
 unfolding blankAt moreAfter
-returns c = record { blank = sym (search decide); left = sym (search decide) }
+returns c = (sym (search decide), sym (search decide))
 
 blank-size-requires : tie.Need-blank-size-requires
 blank-size-requires c κs = search needs
@@ -28,7 +28,7 @@ returns-2 : tie.Need-returns-2
 unfolding blankAt moreAfter
 returns-2 c =
     let e = c .before .blank-size .ensures in
-    record { blank = sym (rw (le-ltb 0 _ (c .before .before .if1 .left), ← e, le-ltb 0 (c .before .blank-size .result) (omega arith))); left = rw (le-ltb 0 _ (c .before .before .if1 .left)) (omega arith) }
+    (sym (rw (le-ltb 0 _ (c .before .before .if1 .left), ← e, le-ltb 0 (c .before .blank-size .result) (omega arith))), rw (le-ltb 0 _ (c .before .before .if1 .left)) (omega arith))
 
 sub-t7 : tie.Need-sub-t7
 sub-t7 c = search needs
@@ -37,7 +37,7 @@ returns-3 : tie.Need-returns-3
 unfolding blankAt moreAfter
 returns-3 c =
     let e = c .before .blank-size .ensures in
-    record { blank = sym (rw (le-ltb 0 _ (c .before .before .if1 .left), ← e, lt-ltb 0 (c .before .blank-size .result) (omega arith))); left = rw (le-ltb 0 _ (c .before .before .if1 .left)) (omega arith) }
+    (sym (rw (le-ltb 0 _ (c .before .before .if1 .left), ← e, lt-ltb 0 (c .before .blank-size .result) (omega arith))), rw (le-ltb 0 _ (c .before .before .if1 .left)) (omega arith))
 
 pub place-at-spec : {M : Type 1} → statement M
 place-at-spec = tie.close (tie.spec sub-t6 returns blank-size-requires returns-2 sub-t7 returns-3)

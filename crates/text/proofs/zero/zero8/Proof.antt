@@ -11,10 +11,10 @@ use Rattle.text.proofs.zero.zero8.Reads as reads
 use Rattle.text.proofs.zero.zero8.Lts as lts
 
 abbrev Inv-loop : tie.InvT-loop
-Inv-loop out₀ from i₀ out i = (length out ≡ length out₀) × (cleared i out ≡ cleared from out₀)
+Inv-loop out₀ i₀ out i = (length out ≡ length out₀) × (cleared i out ≡ cleared i₀ out₀)
 
 abbrev μ-loop : tie.MeasureT-loop
-μ-loop out₀ from i₀ out i = length out₀ - i
+μ-loop out₀ i₀ out i = length out₀ - i
 
 loop-holds : tie.Need-loop-holds Inv-loop μ-loop
 loop-holds c = (refl, refl)

@@ -7,11 +7,11 @@ use lib.ListN.{length, getD}
 use lib.ListN.{take}
 use lib.Seq.{take-length, take-all}
 use native.Mathlib.Nat.{le-antisymm}
-use Rattle.lists.proofs.Conversion.{source-turn}
-use Rattle.lists.proofs.set_source.Statement.{statement}
-use Rattle.lists.proofs.set_source.Tie as tie
-use Rattle.lists.proofs.set_source.Reads as reads
-use Rattle.lists.proofs.set_source.Lts as lts
+use Rattle.text.proofs.Sources.{source-turn}
+use Rattle.text.proofs.source.set_source.Statement.{statement}
+use Rattle.text.proofs.source.set_source.Tie as tie
+use Rattle.text.proofs.source.set_source.Reads as reads
+use Rattle.text.proofs.source.set_source.Lts as lts
 
 abbrev Inv-loop : tie.InvT-loop
 Inv-loop text work₀ i₀ work i = (i ≤ length text) × (length work ≡ length work₀) × (take i work ≡ take i text)
