@@ -11,7 +11,7 @@ use lib.ListN.{length, take, drop, length-map}
 use lib.Seq.{length-take-le, take-length, drop-append-seam}
 use borrow.Author.Tests.{lt-ltb, le-ltb}
 use Rattle.text.specs.Cells.{Cell, cells, written, bytes as textOf}
-use Rattle.text.specs.Writes.{Holds, Appends, cleared, padded}
+use Rattle.text.specs.Writes.{Holds, Appends, LaidOut, cleared, padded}
 use Rattle.text.specs.Lent.{checked}
 use Rattle.text.specs.declared.lent.Refusal.{Refusal}
 use Rattle.text.specs.declared.lent.Refusal.the-variants.{NoSpace, TooManyLosses, LossBytesShort}
@@ -38,10 +38,10 @@ use Rattle.attribution.proofs.Fitting.{texts-within-caption}
 none-left : (xs : List ℕ) → cleared 0 xs ≡ padded (length xs) []
 none-left xs = laid-cleared [] xs 0 (length xs) refl refl refl
 
-pub all-zero : (out origins numbers bytes : List ℕ) {out' origins' numbers' bytes' : List ℕ}
-    → out' ≡ cleared 0 out → origins' ≡ cleared 0 origins → numbers' ≡ cleared 0 numbers → bytes' ≡ cleared 0 bytes
-    → Holding [] [] [] (length out) (length origins) (length numbers) (length bytes) out' origins' numbers' bytes'
-all-zero out origins numbers bytes o p q r = record { written = o ∙ none-left out; from = p ∙ none-left origins; listed = q ∙ none-left numbers; lost = r ∙ none-left bytes }
+pub all-zero : (m k : ℕ) (numbers bytes : List ℕ) {out' origins' numbers' bytes' : List ℕ}
+    → LaidOut [] m k out' origins' → numbers' ≡ cleared 0 numbers → bytes' ≡ cleared 0 bytes
+    → Holding [] [] [] m k (length numbers) (length bytes) out' origins' numbers' bytes'
+all-zero m k numbers bytes l q r = record { written = l .text; from = l .from; listed = q ∙ none-left numbers; lost = r ∙ none-left bytes }
 
 -- ---- what has been put, with zeros behind it
 
@@ -75,16 +75,8 @@ length-written x = sym (length-map (written x) (λ c. c .byte)) ∙ ap length (w
 holds-none : (v : List Cell) → Holds v 0 []
 holds-none v = record { end = λ h. refl; text = λ h. refl; full = λ h. absurd (omega arith) }
 
-module _ (s : List ℕ) {work work₁ work₂ : List ℕ} {r end : ℕ} (room : length s ≤ length work) (p : Puts work 0 work₁ r (bytes s 0 (length s)))
+module _ (s : List ℕ) {work₁ work₂ : List ℕ} {end : ℕ} (source : take (length s) work₁ ≡ s)
     (j : Puts work₁ (length s) work₂ end (nameTexts (bytes work₁ 0 (length s - 0)))) where
-  source : take (length s) work₁ ≡ s
-  unfolding bytes
-  source =
-      let t : take (length s) s ≡ s = take-length s in
-      let q : length (bytes s 0 (length s)) ≡ length s = ap length t in
-      let n : r ≡ length s = omega (arith, p .end, q) in
-      sym (ap (λ (k : ℕ). take k work₁) n) ∙ p .text (omega (arith, n)) ∙ t
-
   source-texts : nameTexts (bytes work₁ 0 (length s - 0)) ≡ nameTexts s
   unfolding bytes
   source-texts = ap (λ (k : ℕ). nameTexts (take k work₁)) (sub-zero (length s)) ∙ ap nameTexts source
@@ -105,13 +97,13 @@ module _ (s : List ℕ) {work work₁ work₂ : List ℕ} {r end : ℕ} (room : 
   joined-in = let e = end-is in omega (arith, e)
 
   -- where the joined texts do not fit, the caption does not
-  pub not-fitting : (out origins : List ℕ) → length s + 3 * length out ≤ length work → length work₂ < end → Holds (cells out origins) end (written (caption s))
+  pub not-fitting : (out origins : List ℕ) → length s + 3 * length out ≤ length work₁ → length work₂ < end → Holds (cells out origins) end (written (caption s))
   not-fitting out origins most h =
       let a = cells-short out origins in
       let b = texts-within-caption s in
       let n = length-written (caption s) in
       let e = end-is in
-      let z : length work₂ ≡ length work = j .size ∙ p .size in
+      let z = j .size in
       record {
         end = λ g. absurd (omega (arith, a, b, n, e, z));
         text = λ g. absurd (omega (arith, a, b, n, e, z));

@@ -1,7 +1,6 @@
 // Attributions: the name, the caption, and the operation on an attribution alone (document 01, "Attributions").
 use attribution_losses::join::join_texts;
 use attribution_losses::loss::count_losses;
-use attribution_losses::loss::put_bytes;
 use attribution_losses::loss::put_losses;
 use caption::put_caption;
 use text::TextAt;
@@ -10,6 +9,8 @@ use text::lent::Lent;
 use text::lent::Refusal;
 use text::lent::Spans;
 use text::lent::check;
+use text::source::set_source;
+use text::write::lay_nothing;
 use text::zero::zero8;
 use text::zero::zero32;
 ghost use mathlib.Core.Path.{_≡_};
@@ -42,10 +43,9 @@ fn refuse(
 ) -> Attributed
     ensures { λ a. ⌜ (a ≡ Refused r) × Holding [] [] [] (length (now (out .entry))) (length (now (origins .entry))) (length (now (records .entry))) (length (now («loss_bytes» .entry))) (now (out .exit)) (now (origins .exit)) (now (records .exit)) (now («loss_bytes» .exit)) ⌝ }
 {
-    zero8(out, 0);
-    zero32(origins, 0);
-    zero32(records, 0);
-    zero8(loss_bytes, 0);
+    lay_nothing(out, origins);
+    zero32(records, TextAt(0));
+    zero8(loss_bytes, TextAt(0));
     Attributed::Refused(r)
 }
 
@@ -65,7 +65,7 @@ fn set_caption(text: &[u8], out: &mut [u8], origins: &mut [u32], work: &mut [u8]
     ensures { λ r. ⌜ Holds (cells (now (out .exit)) (now (origins .exit))) r (written (caption (now (text .entry)))) ⌝ }
 {
     let n = text.len();
-    put_bytes(text, 0, n, work, 0);
+    set_source(text, work);
     let end = join_texts(work, 0, n, n);
     if work.len() < end {
         return end;
@@ -86,10 +86,10 @@ fn finish(
     ensures { λ a. ⌜ (a ≡ Done len (length (losses (now (text .entry)))) (length (lossWords (losses (now (text .entry)))))) × Holding (take len (now (out .entry))) (recordsOf 0 0 0 (losses (now (text .entry)))) (lossWords (losses (now (text .entry)))) (length (now (out .entry))) (length (now (origins .entry))) (length (now (records .entry))) (length (now («loss_bytes» .entry))) (now (out .exit)) (now (origins .exit)) (now (records .exit)) (now («loss_bytes» .exit)) ⌝ }
 {
     let c = put_losses(text, 0, 0, records, 0, loss_bytes, 0);
-    zero8(out, len);
-    zero32(origins, 0);
-    zero32(records, 5 * c.losses);
-    zero8(loss_bytes, c.bytes);
+    zero8(out, TextAt(len));
+    zero32(origins, TextAt(0));
+    zero32(records, TextAt(5 * c.losses));
+    zero8(loss_bytes, TextAt(c.bytes));
     Attributed::Done(len, c.losses, c.bytes)
 }
 

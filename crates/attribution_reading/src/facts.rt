@@ -1,8 +1,8 @@
 // What an attribution says: its first usable fields, its leading id, its last text and the split of it.
-use attribution_parts::Kind;
 use crate::scan::Place;
 use crate::scan::first_at;
 use crate::scan::scan_at;
+use attribution_parts::Kind;
 use day::all_digits;
 use text::PostAt;
 use text::scan::begins_at;

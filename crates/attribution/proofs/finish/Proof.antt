@@ -22,8 +22,8 @@ zero8-requires c κs = search needs
 zero32-requires : tie.Need-zero32-requires
 zero32-requires c κs = search needs
 
-mul-zero32 : tie.Need-mul-zero32
-mul-zero32 c = search needs
+mul-t20 : tie.Need-mul-t20
+mul-t20 c = search needs
 
 zero32-requires-2 : tie.Need-zero32-requires-2
 zero32-requires-2 c κs = search needs
@@ -57,7 +57,7 @@ finish-spec =
     put-losses-requires
     zero8-requires
     zero32-requires
-    mul-zero32
+    mul-t20
     zero32-requires-2
     zero8-requires-2
     same-length

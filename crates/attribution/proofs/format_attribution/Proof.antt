@@ -5,7 +5,7 @@ use Prim.Native.Nat.{ℕ, suc, _+_, _-_, _≤_, _<_}
 use mathlib.Core.List.{List, [], _∷_, _++_}
 use lib.ListN.{length, getD}
 use Rattle.attribution.proofs.Formatting.{called-refused, called-fine}
-use Rattle.attribution.proofs.Sizes.{enough}
+use Rattle.text.proofs.Sizes.{enough}
 use Rattle.attribution.proofs.format_attribution.Statement.{statement}
 use Rattle.attribution.proofs.format_attribution.Tie as tie
 use Rattle.attribution.proofs.format_attribution.Reads as reads

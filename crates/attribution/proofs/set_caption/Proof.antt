@@ -11,10 +11,10 @@ use Rattle.attribution.proofs.set_caption.Reads as reads
 use Rattle.attribution.proofs.set_caption.Lts as lts
 use Rattle.attribution.proofs.put_joined.Reads as put-joined-reads
 use Rattle.attribution_losses.proofs.join.join_texts.Reads as join-texts-reads
-use Rattle.attribution_losses.proofs.loss.put_bytes.Reads as put-bytes-reads
+use Rattle.text.proofs.source.set_source.Reads as set-source-reads
 
-put-bytes-requires : tie.Need-put-bytes-requires
-put-bytes-requires c κs = search needs
+set-source-requires : tie.Need-set-source-requires
+set-source-requires c κs = search needs
 
 join-texts-requires : tie.Need-join-texts-requires
 join-texts-requires c κs = search needs
@@ -26,15 +26,15 @@ returns : tie.Need-returns
 returns c =
     let a = c .before .before .before .before .before .before .before .before .before .before .before .before .before .args in
     let pre = c .before .before .before .before .before .before .before .before .before .before .before .before .before .pre in
-    not-fitting (a .text .now) (omega arith) (c .before .before .before .before .before .before .before .put-bytes .ensures) (c .before .before .before .join-texts .ensures) (a .out .now) (a .origins .now) (pre .1) (c .if1 .taken)
+    let e = c .before .before .before .before .before .before .before .set-source .kept .1 .0 in
+    not-fitting (a .text .now) (c .before .before .before .before .before .before .before .set-source .ensures) (c .before .before .before .join-texts .ensures) (a .out .now) (a .origins .now) (omega arith) (c .if1 .taken)
 
 put-joined-requires : tie.Need-put-joined-requires
 put-joined-requires c κs =
     let a = c .before .before .before .before .before .before .before .before .before .before .before .before .before .before .before .before .args in
-    let pre = c .before .before .before .before .before .before .before .before .before .before .before .before .before .before .before .before .pre in
-    let p = c .before .before .before .before .before .before .before .before .before .before .put-bytes .ensures in
+    let p = c .before .before .before .before .before .before .before .before .before .before .set-source .ensures in
     let j = c .before .before .before .before .before .before .join-texts .ensures in
-    ((pre .0, (joined-in (a .text .now) (omega arith) p j, c .before .before .before .if1 .left)), texts-behind (a .text .now) (omega arith) p j (c .before .before .before .if1 .left))
+    ((c .before .before .before .before .before .before .before .before .before .before .before .before .before .before .before .before .pre .0, (joined-in (a .text .now) p j, c .before .before .before .if1 .left)), texts-behind (a .text .now) p j (c .before .before .before .if1 .left))
 
 same-length-2 : tie.Need-same-length-2
 same-length-2 c = search needs
@@ -46,16 +46,13 @@ same-length-4 : tie.Need-same-length-4
 same-length-4 c = search needs
 
 returns-2 : tie.Need-returns-2
-returns-2 c =
-    let a = c .before .before .before .before .before .before .before .before .before .before .before .before .before .before .before .before .before .before .before .before .before .args in
-    let pre = c .before .before .before .before .before .before .before .before .before .before .before .before .before .before .before .before .before .before .before .before .before .pre in
-    caption-held (a .text .now) (omega arith) (c .before .before .before .before .before .before .before .before .before .before .before .before .before .before .before .put-bytes .ensures) (c .before .before .before .before .before .before .before .before .before .before .before .join-texts .ensures) (c .before .before .before .before .put-joined .ensures)
+returns-2 c = caption-held (c .before .before .before .before .before .before .before .before .before .before .before .before .before .before .before .before .before .before .before .before .before .args .text .now) (c .before .before .before .before .before .before .before .before .before .before .before .before .before .before .before .set-source .ensures) (c .before .before .before .before .before .before .before .before .before .before .before .join-texts .ensures) (c .before .before .before .before .put-joined .ensures)
 
 pub set-caption-spec : {M : Type 1} → statement M
 set-caption-spec =
     tie.close
     (tie.spec
-    put-bytes-requires
+    set-source-requires
     join-texts-requires
     same-length
     returns
