@@ -1,16 +1,18 @@
 -- A whole call of `format_attribution`.
 --   formatted s m l b      what it answers for a text that is right: document 01's refusals 7, 8, 6, or the lengths
 --   answered s lent l b    the same with the refusals 1 to 4 first
---   numberOfAnswer r       document 01's number of an answer
---   captionBy, recordsBy, wordsBy   what an answer leaves of the text s: nothing on a refusal
+--   numberOfAnswer r       document 01's number of an answer: 0 where the call is not turned back
+--   countsOfAnswer r       its values: the caption's length, the losses and the loss bytes; 0 each on a refusal
+--   captionBy r s, recordsBy r s, wordsBy r s   the caption, the records and the loss bytes that an answer leaves; nothing on a refusal
 --   Holding ..             what the lent slices then hold
 --   Called ..              what comes back, and what the lent slices then hold
+--   Formatted ..           the same of a text that is right
 -- m, k: the lengths of the output and the origins; l, b: of the records and the loss bytes; w, n: of the work bytes and the work numbers.
 -- Assumes nothing.
 use mathlib.Core.Path.{_≡_}
 use Prim.Native.Nat.{ℕ, _/_}
 use mathlib.Core.Bool.{cond}
-use mathlib.Core.List.{List, []}
+use mathlib.Core.List.{List, [], _∷_}
 use lib.ListN.{length}
 use lib.Dec.{ltb}
 use Rattle.text.specs.Lent.{numberOf, checked}
@@ -44,6 +46,10 @@ abbrev pub numberOfAnswer : Attributed → ℕ
 numberOfAnswer (Done length losses bytes) = 0
 numberOfAnswer (Refused r) = numberOf r
 
+abbrev pub countsOfAnswer : Attributed → List ℕ
+countsOfAnswer (Done length losses bytes) = length ∷ losses ∷ bytes ∷ []
+countsOfAnswer (Refused r) = 0 ∷ 0 ∷ 0 ∷ []
+
 abbrev pub captionBy : Attributed → List ℕ → List ℕ
 captionBy (Done length losses bytes) s = caption s
 captionBy (Refused r) s = []
@@ -68,7 +74,6 @@ pub record Called (s : List ℕ) (m k l b w n : ℕ) (r : Attributed) (out origi
   pub answer : r ≡ answered s (record { out = m; origins = k; work = w; numbers = n; spans = Without }) l b
   pub holds : Holding (captionBy r s) (recordsBy r s) (wordsBy r s) m k l b out origins numbers bytes
 
--- of a text that is right
 pub record Formatted (s : List ℕ) (m k l b : ℕ) (r : Attributed) (out origins numbers bytes : List ℕ) : Type 0 where
   pub answer : r ≡ formatted s m l b
   pub holds : Holding (captionBy r s) (recordsBy r s) (wordsBy r s) m k l b out origins numbers bytes

@@ -3,26 +3,25 @@ use mathlib.Core.Path.{_≡_, refl}
 use mathlib.Core.List.{List, [], _∷_}
 use Prim.Native.Nat.{ℕ}
 use Rattle.text.specs.Ascii.{ascii, computes as textComputes}
-use Rattle.text.specs.declared.lent.Refusal.the-variants.{NoSpace, TooManyLosses, LossBytesShort}
 use Rattle.day.specs.Day.{computes as dayComputes}
 use Rattle.attribution_parts.specs.Parts.{computes as partsCompute}
 use Rattle.attribution_parts.specs.Attribution.{computes as captionComputes}
 use Rattle.attribution_losses.specs.Lists.{recordsOf, lossWords}
-use Rattle.attribution.specs.declared.Attributed.the-variants.{Done, Refused}
-use Rattle.attribution.specs.Calls.{formatted, recordsBy, wordsBy}
+use Rattle.attribution.specs.declared.Attributed.the-variants.{Done}
+use Rattle.attribution.specs.Calls.{formatted, numberOfAnswer, recordsBy, wordsBy}
 
 -- ---- `k=1 x` has one loss, of one byte, and a caption of one byte
 
 -- four numbers are no record
-losses-refused-first : formatted (ascii "k=1 x") 0 4 0 ≡ Refused TooManyLosses
+losses-refused-first : numberOfAnswer (formatted (ascii "k=1 x") 0 4 0) ≡ 7
 unfolding formatted lossWords captionComputes partsCompute textComputes dayComputes
 losses-refused-first = refl
 
-loss-bytes-refused-next : formatted (ascii "k=1 x") 0 5 0 ≡ Refused LossBytesShort
+loss-bytes-refused-next : numberOfAnswer (formatted (ascii "k=1 x") 0 5 0) ≡ 8
 unfolding formatted lossWords captionComputes partsCompute textComputes dayComputes
 loss-bytes-refused-next = refl
 
-caption-refused-last : formatted (ascii "k=1 x") 0 5 1 ≡ Refused NoSpace
+caption-refused-last : numberOfAnswer (formatted (ascii "k=1 x") 0 5 1) ≡ 6
 unfolding formatted lossWords captionComputes partsCompute textComputes dayComputes
 caption-refused-last = refl
 
