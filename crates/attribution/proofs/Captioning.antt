@@ -14,21 +14,21 @@ use Rattle.text.specs.Cells.{Cell, cell, sign, written, cellsFrom}
 use Rattle.text.specs.Writes.{Appends}
 use Rattle.text.proofs.Writing.{appends-none, appends-then}
 use Rattle.day.specs.Day.{iso, isSeconds, dayOf}
-use Rattle.attribution_parts.specs.declared.facts.Kind.{Kind}
-use Rattle.attribution_parts.specs.declared.facts.Kind.the-variants.{Name, Date, Time}
-use Rattle.attribution_parts.specs.declared.facts.Field.{Field}
+use Rattle.attribution_parts.specs.declared.Kind.{Kind}
+use Rattle.attribution_parts.specs.declared.Kind.the-variants.{Name, Date, Time}
+use Rattle.attribution_reading.specs.declared.facts.Field.{Field}
 use Rattle.attribution_parts.specs.Parts.{parts}
 use Rattle.attribution_parts.specs.Attribution.{spaced, within, fieldOf, isDay, date, id, name, kept, texts, orElse, captionOf, caption}
-use Rattle.attribution_parts.specs.Reads.{FieldAt}
-use Rattle.attribution_parts.specs.declared.facts.Fields.{Fields}
-use Rattle.attribution_parts.specs.declared.facts.Ends.{Ends}
+use Rattle.attribution_reading.specs.Reads.{FieldAt}
+use Rattle.attribution_reading.specs.declared.facts.Fields.{Fields}
+use Rattle.attribution_reading.specs.declared.facts.Ends.{Ends}
 use Rattle.attribution_losses.specs.Lists.{Told}
 use Rattle.attribution_losses.proofs.Losing.{empty-is, empty-words}
-use Rattle.attribution_parts.specs.Places.{bytes}
+use Rattle.attribution_reading.specs.Places.{bytes}
 use Rattle.attribution_losses.specs.Captions.{gap, named, nameTexts}
 use Rattle.attribution.proofs.TextLaws.{written-append, written-first}
-use Rattle.attribution_parts.proofs.Fielding.{length-bytes}
-use Rattle.attribution_parts.proofs.Texts.{kept-short}
+use Rattle.attribution_reading.proofs.Fielding.{length-bytes}
+use Rattle.attribution_reading.proofs.Texts.{kept-short}
 
 pub appends-as : {v v' t u : List Cell} {a b : ℕ} → t ≡ u → Appends v a v' b t → Appends v a v' b u
 appends-as e p = rw (← e) p

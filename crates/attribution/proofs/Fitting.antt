@@ -7,7 +7,7 @@ use native.Mathlib.Omega.{arith}
 use lib.Dec.{ltb}
 use lib.ListN.{length, take, drop, length-append, length-drop, take-append-drop}
 use Rattle.text.specs.Ascii.{ascii, is, isEmpty, digits}
-use Rattle.attribution_parts.specs.declared.facts.Kind.the-variants.{Name}
+use Rattle.attribution_parts.specs.declared.Kind.the-variants.{Name}
 use Rattle.attribution_parts.specs.Parts.{Part, parts}
 use Rattle.attribution_parts.specs.Attribution.{spaced, within, fieldOf, orElse, given, isSuffix, toSuffix, texts, kept, suffix, id, name, date, captionOf, caption}
 use Rattle.attribution_losses.specs.Captions.{nameTexts}

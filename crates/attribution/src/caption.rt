@@ -1,11 +1,11 @@
 // The caption of an attribution: name, date and id.
 use attribution_losses::loss::is_day;
-use attribution_parts::facts::Ends;
-use attribution_parts::facts::Field;
-use attribution_parts::facts::Fields;
-use attribution_parts::facts::leading_id;
-use attribution_parts::facts::read_ends;
-use attribution_parts::facts::read_fields;
+use attribution_reading::facts::Ends;
+use attribution_reading::facts::Field;
+use attribution_reading::facts::Fields;
+use attribution_reading::facts::leading_id;
+use attribution_reading::facts::read_ends;
+use attribution_reading::facts::read_fields;
 use day::write_day;
 use text::TextAt;
 use text::write::put;
@@ -20,11 +20,11 @@ ghost use lib.ListN.{length};
 ghost use Rattle.text.specs.Ascii.{ascii};
 ghost use Rattle.text.specs.Cells.{cells, written};
 ghost use Rattle.text.specs.Writes.{Appends};
-ghost use Rattle.attribution_parts.specs.declared.facts.Kind.the-variants.{Date, Time};
+ghost use Rattle.attribution_parts.specs.declared.Kind.the-variants.{Date, Time};
 ghost use Rattle.attribution_parts.specs.Parts.{parts};
 ghost use Rattle.attribution_parts.specs.Attribution.{isDay, within, spaced, caption, date as dateOf, id as idOf};
-ghost use Rattle.attribution_parts.specs.Places.{bytes};
-ghost use Rattle.attribution_parts.specs.Reads.{FieldAt};
+ghost use Rattle.attribution_reading.specs.Places.{bytes};
+ghost use Rattle.attribution_reading.specs.Reads.{FieldAt};
 ghost use Rattle.attribution_losses.specs.Captions.{named, gap, nameTexts};
 ghost use Rattle.attribution_losses.specs.Lists.{Told};
 

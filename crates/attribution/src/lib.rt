@@ -1,2 +1,149 @@
-// Attributions: the name and the caption.
+// Attributions: the name, the caption, and the operation on an attribution alone (document 01, "Attributions").
+use attribution_losses::join::join_texts;
+use attribution_losses::loss::count_losses;
+use attribution_losses::loss::put_losses;
+use caption::put_caption;
+use text::TextAt;
+use text::lent::Checked;
+use text::lent::Lent;
+use text::lent::Refusal;
+use text::lent::Spans;
+use text::lent::check;
+use text::source::set_source;
+use text::write::lay_nothing;
+use text::zero::zero8;
+use text::zero::zero32;
+ghost use mathlib.Core.Path.{_≡_};
+ghost use mathlib.Core.List.{[]};
+ghost use Prim.Native.Nat.{_+_, _-_, _*_, _≤_};
+ghost use lib.ListN.{length, take, drop};
+ghost use Rattle.text.specs.Cells.{cells, written};
+ghost use Rattle.text.specs.Writes.{Holds, Appends};
+ghost use Rattle.attribution_parts.specs.Attribution.{caption, losses};
+ghost use Rattle.attribution_losses.specs.Captions.{nameTexts};
+ghost use Rattle.attribution_losses.specs.Lists.{recordsOf, lossWords};
+ghost use Rattle.attribution.specs.Calls.{Holding, Called, Formatted};
+ghost use Rattle.attribution.specs.declared.Attributed.the-variants.{Done, Refused};
+
 pub mod caption;
+
+// The caption's length, the number of losses and of loss bytes; or why there are none.
+pub enum Attributed {
+    Done(usize, usize, usize),
+    Refused(Refusal),
+}
+
+// A refusal: all that is lent for the result is zero.
+fn refuse(
+    r: Refusal,
+    out: &mut [u8],
+    origins: &mut [u32],
+    records: &mut [u32],
+    loss_bytes: &mut [u8],
+) -> Attributed
+    ensures { λ a. ⌜ (a ≡ Refused r) × Holding [] [] [] (length (now (out .entry))) (length (now (origins .entry))) (length (now (records .entry))) (length (now («loss_bytes» .entry))) (now (out .exit)) (now (origins .exit)) (now (records .exit)) (now («loss_bytes» .exit)) ⌝ }
+{
+    lay_nothing(out, origins);
+    zero32(records, TextAt(0));
+    zero8(loss_bytes, TextAt(0));
+    Attributed::Refused(r)
+}
+
+// Writes the caption of the attribution that is the first n of the work bytes, with its joined texts from n up to `end`.
+fn put_joined(n: usize, end: usize, work: &[u8], out: &mut [u8], origins: &mut [u32]) -> usize
+    requires { ⌜ ((n ≤ 262144) × ((n ≤ end) × (end ≤ length (now work)))) × (take (end - n) (drop n (now work)) ≡ nameTexts (take n (now work))) ⌝ }
+    ensures { λ r. ⌜ Appends (cells (now (out .entry)) (now (origins .entry))) 0 (cells (now (out .exit)) (now (origins .exit))) r (written (caption (take n (now (work .entry))))) ⌝ }
+{
+    let to = put_caption(&work[..n], &work[n..end], out, origins, TextAt(0));
+    to.0
+}
+
+// Writes the caption to the front of the output, its cells' numbers beside it; a place past the output's end says that it did not fit. The
+// text stands in front of the work bytes, its joined texts behind it: where these do not fit, the caption does not.
+fn set_caption(text: &[u8], out: &mut [u8], origins: &mut [u32], work: &mut [u8]) -> usize
+    requires { ⌜ (length (now text) ≤ 262144) × (length (now text) + 3 * length (now out) ≤ length (now work)) ⌝ }
+    ensures { λ r. ⌜ Holds (cells (now (out .exit)) (now (origins .exit))) r (written (caption (now (text .entry)))) ⌝ }
+{
+    let n = text.len();
+    set_source(text, work);
+    let end = join_texts(work, 0, n, n);
+    if work.len() < end {
+        return end;
+    }
+    put_joined(n, end, work, out, origins)
+}
+
+// Lists the losses and clears what is not used, the first `len` bytes of the output being the caption.
+fn finish(
+    text: &[u8],
+    len: usize,
+    out: &mut [u8],
+    origins: &mut [u32],
+    records: &mut [u32],
+    loss_bytes: &mut [u8],
+) -> Attributed
+    requires { ⌜ ((length (now text) ≤ 262144) × (len ≤ length (now out))) × ((5 * length (losses (now text)) ≤ length (now records)) × (length (lossWords (losses (now text))) ≤ length (now «loss_bytes»))) ⌝ }
+    ensures { λ a. ⌜ (a ≡ Done len (length (losses (now (text .entry)))) (length (lossWords (losses (now (text .entry)))))) × Holding (take len (now (out .entry))) (recordsOf 0 0 0 (losses (now (text .entry)))) (lossWords (losses (now (text .entry)))) (length (now (out .entry))) (length (now (origins .entry))) (length (now (records .entry))) (length (now («loss_bytes» .entry))) (now (out .exit)) (now (origins .exit)) (now (records .exit)) (now («loss_bytes» .exit)) ⌝ }
+{
+    let c = put_losses(text, 0, 0, records, 0, loss_bytes, 0);
+    zero8(out, TextAt(len));
+    zero32(origins, TextAt(0));
+    zero32(records, TextAt(5 * c.losses));
+    zero8(loss_bytes, TextAt(c.bytes));
+    Attributed::Done(len, c.losses, c.bytes)
+}
+
+// Formats a text that is right, in memory that is large enough.
+fn format(
+    text: &[u8],
+    out: &mut [u8],
+    origins: &mut [u32],
+    records: &mut [u32],
+    loss_bytes: &mut [u8],
+    work: &mut [u8],
+) -> Attributed
+    requires { ⌜ ((length (now text) ≤ 262144) × (length (now out) ≤ length (now origins))) × (length (now text) + 3 * length (now out) ≤ length (now work)) ⌝ }
+    ensures { λ a. ⌜ Formatted (now (text .entry)) (length (now (out .entry))) (length (now (origins .entry))) (length (now (records .entry))) (length (now («loss_bytes» .entry))) a (now (out .exit)) (now (origins .exit)) (now (records .exit)) (now («loss_bytes» .exit)) ⌝ }
+{
+    let c = count_losses(text);
+    if records.len() / 5 < c.losses {
+        return refuse(Refusal::TooManyLosses, out, origins, records, loss_bytes);
+    }
+    if loss_bytes.len() < c.bytes {
+        return refuse(Refusal::LossBytesShort, out, origins, records, loss_bytes);
+    }
+    let len = set_caption(text, out, origins, work);
+    if out.len() < len {
+        return refuse(Refusal::NoSpace, out, origins, records, loss_bytes);
+    }
+    finish(text, len, out, origins, records, loss_bytes)
+}
+
+// An attribution alone: document 01's refusals 1 to 4, then 7, 8, 6. A loss takes five numbers of the records: quote and line, which are 0,
+// unnamed, start and length.
+pub fn format_attribution(
+    text: &[u8],
+    out: &mut [u8],
+    origins: &mut [u32],
+    records: &mut [u32],
+    loss_bytes: &mut [u8],
+    work: &mut [u8],
+    numbers: &mut [u32],
+) -> Attributed
+    ensures { λ a. ⌜ Called (now (text .entry)) (length (now (out .entry))) (length (now (origins .entry))) (length (now (records .entry))) (length (now («loss_bytes» .entry))) (length (now (work .entry))) (length (now (numbers .entry))) a (now (out .exit)) (now (origins .exit)) (now (records .exit)) (now («loss_bytes» .exit)) ⌝ }
+{
+    let checked = check(
+        text,
+        Lent {
+            out: out.len(),
+            origins: origins.len(),
+            work: work.len(),
+            numbers: numbers.len(),
+            spans: Spans::Without,
+        },
+    );
+    match checked {
+        Checked::Refused(r) => refuse(r, out, origins, records, loss_bytes),
+        Checked::Fine => format(text, out, origins, records, loss_bytes, work),
+    }
+}

@@ -10,19 +10,19 @@ use lib.ListN.{length, take, drop, getD, drop-of-length-le, length-drop}
 use lib.Seq.{take-take, drop-drop, getD-take, take-nil}
 use borrow.Author.Tests.{eq-eqb, ne-eqb, lt-ltb, le-ltb}
 use Rattle.text.specs.Ascii.{isEmpty}
-use Rattle.attribution_parts.specs.declared.scan.Place.{Place}
-use Rattle.attribution_parts.specs.declared.facts.Kind.the-variants.{Name}
-use Rattle.attribution_parts.specs.declared.facts.Field.{Field}
-use Rattle.attribution_parts.specs.declared.facts.Lead.{Lead}
+use Rattle.attribution_reading.specs.declared.scan.Place.{Place}
+use Rattle.attribution_parts.specs.declared.Kind.the-variants.{Name}
+use Rattle.attribution_reading.specs.declared.facts.Field.{Field}
+use Rattle.attribution_reading.specs.declared.facts.Lead.{Lead}
 use Rattle.attribution_parts.specs.Parts.{Part, parts}
 use Rattle.attribution_parts.specs.Attribution.{spaced, joined, wordsOf, textsOf, texts, leading, fieldOf}
-use Rattle.attribution_parts.specs.Places.{bytes, partOf, Stands, Scanned}
-use Rattle.attribution_parts.specs.Reads.{FieldAt, LeadAt}
+use Rattle.attribution_reading.specs.Places.{bytes, partOf, Stands, Scanned}
+use Rattle.attribution_reading.specs.Reads.{FieldAt, LeadAt}
 use Rattle.attribution_losses.specs.Captions.{added, nameTexts}
 use Rattle.attribution_losses.specs.Lists.{Puts}
-use Rattle.attribution_parts.proofs.Laws.{scan-on}
-use Rattle.attribution_parts.proofs.Fielding.{length-bytes}
-use Rattle.attribution_parts.proofs.Texts.{texts-more, words-text, words-field, drop-take}
+use Rattle.attribution_reading.proofs.Laws.{scan-on}
+use Rattle.attribution_reading.proofs.Fielding.{length-bytes}
+use Rattle.attribution_reading.proofs.Texts.{texts-more, words-text, words-field, drop-take}
 use Rattle.attribution_losses.proofs.Listing.{puts-none, puts-then, puts-as}
 use Rattle.attribution_losses.proofs.Losing.{empty-is}
 

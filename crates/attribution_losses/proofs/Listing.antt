@@ -11,7 +11,7 @@ use lib.ListN.{length, take, drop, getD, set, length-set, length-append, length-
 use lib.Seq.{take-suc, take-suc-set, take-set-le, take-take, getD-drop}
 use borrow.Author.Tests.{eq-eqb, ne-eqb}
 use Rattle.attribution_parts.specs.Attribution.{Loss, lossOf}
-use Rattle.attribution_parts.specs.Places.{bytes}
+use Rattle.attribution_reading.specs.Places.{bytes}
 use Rattle.attribution_losses.specs.Lists.{Puts, flag, recordOf, recordsOf, lossWords, Lists}
 
 -- ---- putting

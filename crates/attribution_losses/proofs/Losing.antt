@@ -13,22 +13,22 @@ use lib.Seq.{take-take, drop-drop, take-nil}
 use borrow.Author.Tests.{eq-eqb, ne-eqb}
 use Rattle.text.specs.Ascii.{ascii, isEmpty}
 use Rattle.day.specs.Day.{isSeconds}
-use Rattle.attribution_parts.specs.declared.scan.Place.{Place}
-use Rattle.attribution_parts.specs.declared.facts.Kind.{Kind}
-use Rattle.attribution_parts.specs.declared.facts.Kind.the-variants.{Name, PostId, Id, Date, Time}
-use Rattle.attribution_parts.specs.declared.facts.Field.{Field}
-use Rattle.attribution_parts.specs.declared.facts.Fields.{Fields}
-use Rattle.attribution_parts.specs.declared.facts.Ends.{Ends}
-use Rattle.attribution_parts.specs.declared.facts.Lead.{Lead}
+use Rattle.attribution_reading.specs.declared.scan.Place.{Place}
+use Rattle.attribution_parts.specs.declared.Kind.{Kind}
+use Rattle.attribution_parts.specs.declared.Kind.the-variants.{Name, PostId, Id, Date, Time}
+use Rattle.attribution_reading.specs.declared.facts.Field.{Field}
+use Rattle.attribution_reading.specs.declared.facts.Fields.{Fields}
+use Rattle.attribution_reading.specs.declared.facts.Ends.{Ends}
+use Rattle.attribution_reading.specs.declared.facts.Lead.{Lead}
 use Rattle.attribution_losses.specs.declared.loss.Counts.{Counts}
 use Rattle.attribution_losses.specs.declared.loss.Group.{Group}
 use Rattle.attribution_parts.specs.Parts.{Part, field, text, parts}
 use Rattle.attribution_parts.specs.Attribution.{isLeading, partNo, leading, leadingId, spaced, joined, wordsOf, textsOf, suffix, fieldOf, isDay, Loss, lossOf, cutIf, cutLast, runWords, inRun, isUsed, unnamed, lossAt, lossesFrom, passedOver, lossesOf, losses}
-use Rattle.attribution_parts.specs.Places.{bytes, partOf, partWith, Stands, Scanned}
-use Rattle.attribution_parts.specs.Reads.{FieldAt, FieldsAt, LeadAt, EndsAt}
+use Rattle.attribution_reading.specs.Places.{bytes, partOf, partWith, Stands, Scanned}
+use Rattle.attribution_reading.specs.Reads.{FieldAt, FieldsAt, LeadAt, EndsAt}
 use Rattle.attribution_losses.specs.Lists.{Puts, flag, lossWords, recordOf, recordsOf, cutSize, usedBy, passedBy, passedLoss, lossesAt, runAt, Told, Here, Ran, Grouped, Lists, Listed}
-use Rattle.attribution_parts.proofs.Laws.{scan-on}
-use Rattle.attribution_parts.proofs.Fielding.{length-bytes}
+use Rattle.attribution_reading.proofs.Laws.{scan-on}
+use Rattle.attribution_reading.proofs.Fielding.{length-bytes}
 use Rattle.attribution_losses.proofs.Listing.{puts-none, puts-then, puts-as, lists-none, lists-then, lists-one, lists-as}
 
 -- ---- parts behind a place

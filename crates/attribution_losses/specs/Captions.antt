@@ -10,7 +10,7 @@ use mathlib.Core.List.{List, [], _∷_}
 use lib.ListN.{take, drop}
 use lib.Dec.{eqb}
 use Rattle.text.specs.Ascii.{isEmpty}
-use Rattle.attribution_parts.specs.declared.facts.Kind.the-variants.{Name}
+use Rattle.attribution_parts.specs.declared.Kind.the-variants.{Name}
 use Rattle.attribution_parts.specs.Parts.{parts}
 use Rattle.attribution_parts.specs.Attribution.{fieldOf, texts}
 

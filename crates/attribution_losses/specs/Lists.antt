@@ -11,16 +11,16 @@ use mathlib.Core.List.{List, [], _∷_, _++_}
 use lib.ListN.{length, take, drop}
 use lib.Dec.{eqb, ltb}
 use Rattle.text.specs.Ascii.{ascii}
-use Rattle.attribution_parts.specs.declared.facts.Field.{Field}
-use Rattle.attribution_parts.specs.declared.facts.Fields.{Fields}
-use Rattle.attribution_parts.specs.declared.facts.Ends.{Ends}
-use Rattle.attribution_parts.specs.declared.facts.Lead.{Lead}
+use Rattle.attribution_reading.specs.declared.facts.Field.{Field}
+use Rattle.attribution_reading.specs.declared.facts.Fields.{Fields}
+use Rattle.attribution_reading.specs.declared.facts.Ends.{Ends}
+use Rattle.attribution_reading.specs.declared.facts.Lead.{Lead}
 use Rattle.attribution_losses.specs.declared.loss.Group.{Group}
 use Rattle.attribution_losses.specs.declared.loss.Counts.{Counts}
 use Rattle.attribution_parts.specs.Parts.{Part, parts}
 use Rattle.attribution_parts.specs.Attribution.{Loss, lossOf, cutLast, runWords, lossesFrom, suffix, isUsed, leading, isDay}
-use Rattle.attribution_parts.specs.Places.{Stands}
-use Rattle.attribution_parts.specs.Reads.{FieldsAt, EndsAt}
+use Rattle.attribution_reading.specs.Places.{Stands}
+use Rattle.attribution_reading.specs.Reads.{FieldsAt, EndsAt}
 
 pub record Puts (v : List ℕ) (at : ℕ) (v' : List ℕ) (at' : ℕ) (t : List ℕ) : Type 0 where
   pub size : length v' ≡ length v

@@ -1,8 +1,8 @@
 // The joined texts, where they make the name: written behind the attribution in one slice.
 use crate::loss::put_byte;
-use attribution_parts::facts::leading_id;
-use attribution_parts::facts::read_fields;
-use attribution_parts::scan::scan_at;
+use attribution_reading::facts::leading_id;
+use attribution_reading::facts::read_fields;
+use attribution_reading::scan::scan_at;
 ghost use mathlib.Core.Path.{_≡_};
 ghost use mathlib.Core.Bool.{cond};
 ghost use mathlib.Core.List.{[]};
@@ -11,7 +11,7 @@ ghost use lib.Dec.{eqb, ltb};
 ghost use lib.ListN.{length, drop};
 ghost use Rattle.attribution_parts.specs.Parts.{parts};
 ghost use Rattle.attribution_parts.specs.Attribution.{textsOf};
-ghost use Rattle.attribution_parts.specs.Places.{bytes, Stands};
+ghost use Rattle.attribution_reading.specs.Places.{bytes, Stands};
 ghost use Rattle.attribution_losses.specs.Captions.{added, nameTexts};
 ghost use Rattle.attribution_losses.specs.Lists.{Puts};
 

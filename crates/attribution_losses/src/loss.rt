@@ -1,12 +1,12 @@
 // The losses of an attribution: counted, and listed in lent slices.
-use attribution_parts::facts::Ends;
-use attribution_parts::facts::Field;
-use attribution_parts::facts::Fields;
-use attribution_parts::facts::Lead;
-use attribution_parts::facts::leading_id;
-use attribution_parts::facts::read_ends;
-use attribution_parts::facts::read_fields;
-use attribution_parts::scan::scan_at;
+use attribution_reading::facts::Ends;
+use attribution_reading::facts::Field;
+use attribution_reading::facts::Fields;
+use attribution_reading::facts::Lead;
+use attribution_reading::facts::leading_id;
+use attribution_reading::facts::read_ends;
+use attribution_reading::facts::read_fields;
+use attribution_reading::scan::scan_at;
 use day::is_seconds;
 ghost use mathlib.Core.Path.{_≡_};
 ghost use mathlib.Core.Bool.{Bool, not, _&&_};
@@ -16,9 +16,9 @@ ghost use lib.ListN.{length};
 ghost use lib.Dec.{eqb};
 ghost use Rattle.attribution_parts.specs.Parts.{parts};
 ghost use Rattle.attribution_parts.specs.Attribution.{isDay, losses};
-ghost use Rattle.attribution_parts.specs.declared.facts.Kind.the-variants.{Time};
-ghost use Rattle.attribution_parts.specs.Places.{bytes};
-ghost use Rattle.attribution_parts.specs.Reads.{FieldAt, EndsAt};
+ghost use Rattle.attribution_parts.specs.declared.Kind.the-variants.{Time};
+ghost use Rattle.attribution_reading.specs.Places.{bytes};
+ghost use Rattle.attribution_reading.specs.Reads.{FieldAt, EndsAt};
 ghost use Rattle.attribution_losses.specs.Lists.{Puts, recordOf, cutSize, isAt, usedBy, passedBy, passedLoss, lossWords, Here, Told, Ran, Grouped, Lists, Listed};
 
 // How many losses there are, and how many bytes their fields have.

@@ -20,8 +20,8 @@ use lib.ListN.{length, take, drop, getD}
 use lib.Dec.{eqb, ltb}
 use Rattle.text.specs.Ascii.{ascii, is, spells, isEmpty, digits}
 use Rattle.day.specs.Day.{isSeconds, dayOf}
-use Rattle.attribution_parts.specs.declared.facts.Kind.{Kind}
-use Rattle.attribution_parts.specs.declared.facts.Kind.the-variants.{Name, PostId, Id, Date, Time}
+use Rattle.attribution_parts.specs.declared.Kind.{Kind}
+use Rattle.attribution_parts.specs.declared.Kind.the-variants.{Name, PostId, Id, Date, Time}
 use Rattle.attribution_parts.specs.Parts.{Part, field, text, parts}
 
 -- ---- fields: the first usable one of each kind counts

@@ -19,145 +19,161 @@ lost s = record { unnamed = true; words = ascii s }
 abbrev Gives : String → String → List Loss → Type 0
 Gives s c ls = (caption (ascii s) ≡ ascii c) × (losses (ascii s) ≡ ls)
 
--- position
-e0 : Gives "\"42\" Ann" "Ann #42" ([])
-unfolding computes partsCompute textComputes dayComputes
-e0 = (refl, refl)
+-- ---- positions, and the listing of `thread`
 
--- position
-e1 : Gives ";7" ";7" ([])
+leading-id-shown : Gives "\"42\" Ann" "Ann #42" ([])
 unfolding computes partsCompute textComputes dayComputes
-e1 = (refl, refl)
+leading-id-shown = (refl, refl)
 
--- position
-e2 : Gives "name=Ann rank=3 guest" "Ann" (key "rank" ∷ lost "guest" ∷ [])
+suffix-alone-not-split : Gives ";7" ";7" ([])
 unfolding computes partsCompute textComputes dayComputes
-e2 = (refl, refl)
+suffix-alone-not-split = (refl, refl)
 
--- the listing of `thread`
-e3 : Gives "Ann;7 rank=3" "Ann #7" (key "rank" ∷ [])
+texts-beside-name-lost : Gives "name=Ann rank=3 guest" "Ann" (key "rank" ∷ lost "guest" ∷ [])
 unfolding computes partsCompute textComputes dayComputes
-e3 = (refl, refl)
+texts-beside-name-lost = (refl, refl)
 
--- a part needs no space behind a closing quote
-e4 : Gives "name=\"A\"b" "A" (lost "b" ∷ [])
+listed-by-thread : Gives "Ann;7 rank=3" "Ann #7" (key "rank" ∷ [])
 unfolding computes partsCompute textComputes dayComputes
-e4 = (refl, refl)
+listed-by-thread = (refl, refl)
 
--- a quote inside a run is ordinary
-e5 : Gives "it's \"x" "it's \"x" ([])
-unfolding computes partsCompute textComputes dayComputes
-e5 = (refl, refl)
+-- ---- parts
 
--- a quote without its closer is part of a run
-e6 : Gives "k=\"a b" "b" (key "k" ∷ [])
+part-right-behind-quote : Gives "name=\"A\"b" "A" (lost "b" ∷ [])
 unfolding computes partsCompute textComputes dayComputes
-e6 = (refl, refl)
+part-right-behind-quote = (refl, refl)
 
-e7 : Gives "a=b=c" "" (key "a" ∷ [])
+quote-inside-run : Gives "it's \"x" "it's \"x" ([])
 unfolding computes partsCompute textComputes dayComputes
-e7 = (refl, refl)
+quote-inside-run = (refl, refl)
 
--- VT parts nothing
-e8 : Gives "a\u{b}b" "a\u{b}b" ([])
+value-to-space-where-quote-open : parts 0 (ascii "k=\"a b") ≡ field (ascii "k") (ascii "\"a") ∷ text (ascii "b") false ∷ []
 unfolding computes partsCompute textComputes dayComputes
-e8 = (refl, refl)
+value-to-space-where-quote-open = refl
 
--- nor does U+00A0
-e9 : Gives "aÂ\u{a0}b" "aÂ\u{a0}b" ([])
+quote-open-in-value : Gives "k=\"a b" "b" (key "k" ∷ [])
 unfolding computes partsCompute textComputes dayComputes
-e9 = (refl, refl)
+quote-open-in-value = (refl, refl)
 
--- an attribution alone may hold any text
-e10 : Gives "a]b" "a]b" ([])
+value-with-equals : parts 0 (ascii "a=b=c") ≡ field (ascii "a") (ascii "b=c") ∷ []
 unfolding computes partsCompute textComputes dayComputes
-e10 = (refl, refl)
+value-with-equals = refl
 
--- a caption can be longer than its attribution
-e11 : Gives "x;7" "x #7" ([])
+equals-in-value : Gives "a=b=c" "" (key "a" ∷ [])
 unfolding computes partsCompute textComputes dayComputes
-e11 = (refl, refl)
+equals-in-value = (refl, refl)
 
--- an unusable field does not block a later one
-e12 : Gives "id=x id=5" "#5" (key "id" ∷ [])
+single-quotes : Gives "'42' Ann" "Ann #42" ([])
 unfolding computes partsCompute textComputes dayComputes
-e12 = (refl, refl)
+single-quotes = (refl, refl)
 
-e13 : Gives "name= author=B" "B" (key "name" ∷ [])
+vertical-tab-parts-nothing : Gives "a\u{b}b" "a\u{b}b" ([])
 unfolding computes partsCompute textComputes dayComputes
-e13 = (refl, refl)
+vertical-tab-parts-nothing = (refl, refl)
 
--- the leading id is part 0 only
-e14 : Gives "\"\" \"4\"" "4" ([])
+-- U+00A0, by its two bytes
+no-break-space-parts-nothing : Gives "aÂ\u{a0}b" "aÂ\u{a0}b" ([])
 unfolding computes partsCompute textComputes dayComputes
-e14 = (refl, refl)
+no-break-space-parts-nothing = (refl, refl)
 
-e15 : Gives "\"9\" post_id=1 id=2" "#1" (key "id" ∷ key "id" ∷ [])
+any-text-alone : Gives "a]b" "a]b" ([])
 unfolding computes partsCompute textComputes dayComputes
-e15 = (refl, refl)
+any-text-alone = (refl, refl)
 
--- the split is at the last `;`
-e16 : Gives "Ann;7;8" "Ann;7 #8" ([])
+nothing-given : Gives "" "" ([])
 unfolding computes partsCompute textComputes dayComputes
-e16 = (refl, refl)
+nothing-given = (refl, refl)
 
--- nothing is trimmed
-e17 : Gives "x ;7" "x  #7" ([])
-unfolding computes partsCompute textComputes dayComputes
-e17 = (refl, refl)
+-- ---- fields
 
--- with its space
-e18 : Gives "name=N x ;7" "N #7" (lost "x " ∷ [])
+unusable-id-passed : Gives "id=x id=5" "#5" (key "id" ∷ [])
 unfolding computes partsCompute textComputes dayComputes
-e18 = (refl, refl)
+unusable-id-passed = (refl, refl)
 
--- splits nothing
-e19 : Gives "name=N ;7" "N" (lost ";7" ∷ [])
+empty-name-passed : Gives "name= author=B" "B" (key "name" ∷ [])
 unfolding computes partsCompute textComputes dayComputes
-e19 = (refl, refl)
+empty-name-passed = (refl, refl)
 
--- which goes if empty
-e20 : Gives "name=N \"x\" ;7" "N #7" (lost "x" ∷ [])
+first-name-counts : Gives "name=A name=B" "A" (key "name" ∷ [])
 unfolding computes partsCompute textComputes dayComputes
-e20 = (refl, refl)
+first-name-counts = (refl, refl)
 
--- an empty text breaks a run
-e21 : Gives "name=N a \"\" b" "N" (lost "a" ∷ lost "b" ∷ [])
-unfolding computes partsCompute textComputes dayComputes
-e21 = (refl, refl)
+-- ---- ids
 
--- a field breaks a run
-e22 : Gives "name=N a k=1 b c" "N" (lost "a" ∷ key "k" ∷ lost "b c" ∷ [])
+leading-id-alone : Gives "\"9\"" "#9" ([])
 unfolding computes partsCompute textComputes dayComputes
-e22 = (refl, refl)
+leading-id-alone = (refl, refl)
 
-e23 : Gives "date=d time=12:30" "(d 12:30)" ([])
+leading-id-part-0-only : Gives "\"\" \"4\"" "4" ([])
 unfolding computes partsCompute textComputes dayComputes
-e23 = (refl, refl)
+leading-id-part-0-only = (refl, refl)
 
-e24 : Gives "date=\"\" time=t" "(t)" (key "date" ∷ [])
+leading-id-quoted-only : Gives "42 Ann" "42 Ann" ([])
 unfolding computes partsCompute textComputes dayComputes
-e24 = (refl, refl)
+leading-id-quoted-only = (refl, refl)
 
--- a time that is a day replaces date
-e25 : Gives "NAME=A Date=d time=951782400" "A (2000-02-29)" (key "Date" ∷ [])
+leading-id-passed-over : Gives "\"9\" id=2" "#2" (key "id" ∷ [])
 unfolding computes partsCompute textComputes dayComputes
-e25 = (refl, refl)
+leading-id-passed-over = (refl, refl)
 
--- a leading id alone
-e26 : Gives "\"9\"" "#9" ([])
+both-ids-passed-over : Gives "\"9\" post_id=1 id=2" "#1" (key "id" ∷ key "id" ∷ [])
 unfolding computes partsCompute textComputes dayComputes
-e26 = (refl, refl)
+both-ids-passed-over = (refl, refl)
 
--- still no id?
-e27 : Gives "\"9\" x;8" "x;8 #9" ([])
-unfolding computes partsCompute textComputes dayComputes
-e27 = (refl, refl)
+-- ---- the split
 
-e28 : Gives "name=A name=B" "A" (key "name" ∷ [])
+caption-longer-than-attribution : Gives "x;7" "x #7" ([])
 unfolding computes partsCompute textComputes dayComputes
-e28 = (refl, refl)
+caption-longer-than-attribution = (refl, refl)
 
-e29 : Gives "" "" ([])
+split-at-last-semicolon : Gives "Ann;7;8" "Ann;7 #8" ([])
 unfolding computes partsCompute textComputes dayComputes
-e29 = (refl, refl)
+split-at-last-semicolon = (refl, refl)
+
+split-trims-nothing : Gives "x ;7" "x  #7" ([])
+unfolding computes partsCompute textComputes dayComputes
+split-trims-nothing = (refl, refl)
+
+split-off-last-loss : Gives "name=N x ;7" "N #7" (lost "x " ∷ [])
+unfolding computes partsCompute textComputes dayComputes
+split-off-last-loss = (refl, refl)
+
+split-of-all-texts-none : Gives "name=N ;7" "N" (lost ";7" ∷ [])
+unfolding computes partsCompute textComputes dayComputes
+split-of-all-texts-none = (refl, refl)
+
+loss-emptied-by-split-goes : Gives "name=N \"x\" ;7" "N #7" (lost "x" ∷ [])
+unfolding computes partsCompute textComputes dayComputes
+loss-emptied-by-split-goes = (refl, refl)
+
+no-split-behind-leading-id : Gives "\"9\" x;8" "x;8 #9" ([])
+unfolding computes partsCompute textComputes dayComputes
+no-split-behind-leading-id = (refl, refl)
+
+-- ---- unnamed losses
+
+empty-text-ends-run : Gives "name=N a \"\" b" "N" (lost "a" ∷ lost "b" ∷ [])
+unfolding computes partsCompute textComputes dayComputes
+empty-text-ends-run = (refl, refl)
+
+field-ends-run : Gives "name=N a k=1 b c" "N" (lost "a" ∷ key "k" ∷ lost "b c" ∷ [])
+unfolding computes partsCompute textComputes dayComputes
+field-ends-run = (refl, refl)
+
+-- ---- date and caption
+
+date-and-time : Gives "date=d time=12:30" "(d 12:30)" ([])
+unfolding computes partsCompute textComputes dayComputes
+date-and-time = (refl, refl)
+
+time-alone : Gives "date=\"\" time=t" "(t)" (key "date" ∷ [])
+unfolding computes partsCompute textComputes dayComputes
+time-alone = (refl, refl)
+
+day-replaces-date : Gives "NAME=A Date=d time=951782400" "A (2000-02-29)" (key "Date" ∷ [])
+unfolding computes partsCompute textComputes dayComputes
+day-replaces-date = (refl, refl)
+
+name-date-id : Gives "name=A date=d id=5" "A (d) #5" ([])
+unfolding computes partsCompute textComputes dayComputes
+name-date-id = (refl, refl)

@@ -4,14 +4,14 @@ use mathlib.Core.Path.{_≡_, refl, sym, ap, _∙_}
 use Prim.Native.Nat.{ℕ, suc, _+_, _-_, _≤_, _<_}
 use mathlib.Core.List.{List, [], _∷_, _++_}
 use lib.ListN.{length, getD}
-use Rattle.attribution_parts.specs.Places.{bytes}
+use Rattle.attribution_reading.specs.Places.{bytes}
 use Rattle.attribution_losses.proofs.Joining.{Joining, join-start, slice-kept, join-begins, join-room, join-turn, join-end}
 use Rattle.attribution_losses.proofs.join.join_from.Statement.{statement}
 use Rattle.attribution_losses.proofs.join.join_from.Tie as tie
 use Rattle.attribution_losses.proofs.join.join_from.Reads as reads
 use Rattle.attribution_losses.proofs.join.join_from.Lts as lts
 use Rattle.attribution_losses.proofs.join.put_more.Reads as put-more-reads
-use Rattle.attribution_parts.proofs.scan.scan_at.Reads as scan-at-reads
+use Rattle.attribution_reading.proofs.scan.scan_at.Reads as scan-at-reads
 
 abbrev Inv-loop : tie.InvT-loop
 Inv-loop work₀ a e first count at pos₀ to₀ work pos to = Joining work₀ a (e - a) count at work pos to

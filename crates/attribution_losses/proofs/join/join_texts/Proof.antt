@@ -6,13 +6,13 @@ use mathlib.Core.List.{List, [], _∷_, _++_}
 use lib.ListN.{length, getD}
 use Rattle.attribution_losses.proofs.Joining.{no-texts, all-texts}
 use Rattle.attribution_losses.proofs.Listing.{puts-none, puts-as}
-use Rattle.attribution_parts.specs.Places.{bytes}
+use Rattle.attribution_reading.specs.Places.{bytes}
 use Rattle.attribution_losses.proofs.join.join_texts.Statement.{statement}
 use Rattle.attribution_losses.proofs.join.join_texts.Tie as tie
 use Rattle.attribution_losses.proofs.join.join_texts.Reads as reads
 use Rattle.attribution_losses.proofs.join.join_texts.Lts as lts
-use Rattle.attribution_parts.proofs.facts.leading_id.Reads as leading-id-reads
-use Rattle.attribution_parts.proofs.facts.read_fields.Reads as read-fields-reads
+use Rattle.attribution_reading.proofs.facts.leading_id.Reads as leading-id-reads
+use Rattle.attribution_reading.proofs.facts.read_fields.Reads as read-fields-reads
 use Rattle.attribution_losses.proofs.join.join_from.Reads as join-from-reads
 
 sub-read-fields : tie.Need-sub-read-fields

@@ -9,7 +9,7 @@ use lib.Dec.{eqb, ltb}
 use borrow.Author.Tests.{eq-eqb, ne-eqb}
 use Rattle.attribution_losses.proofs.Joining.{put-nothing, put-field, put-first, put-next}
 use Rattle.attribution_losses.proofs.Listing.{puts-none, puts-then, puts-as}
-use Rattle.attribution_parts.specs.Places.{bytes}
+use Rattle.attribution_reading.specs.Places.{bytes}
 use Rattle.attribution_losses.specs.Captions.{added}
 use Rattle.attribution_losses.proofs.join.put_more.Statement.{statement}
 use Rattle.attribution_losses.proofs.join.put_more.Tie as tie

@@ -6,7 +6,7 @@ use mathlib.Core.List.{List, [], _∷_, _++_}
 use lib.ListN.{length, getD}
 use Rattle.attribution_losses.proofs.Joining.{byte-kept}
 use Rattle.attribution_losses.proofs.Listing.{puts-none, puts-turn, puts-as, bytes-none}
-use Rattle.attribution_parts.specs.Places.{bytes}
+use Rattle.attribution_reading.specs.Places.{bytes}
 use Rattle.attribution_losses.specs.Lists.{Puts}
 use Rattle.attribution_losses.proofs.join.put_within.Statement.{statement}
 use Rattle.attribution_losses.proofs.join.put_within.Tie as tie

@@ -6,7 +6,7 @@ use mathlib.Core.List.{List, [], _∷_, _++_}
 use lib.ListN.{length, getD}
 use native.Mathlib.Nat.{add-sub-cancel-left}
 use Rattle.attribution_losses.proofs.Losing.{day-is}
-use Rattle.attribution_parts.specs.Places.{bytes}
+use Rattle.attribution_reading.specs.Places.{bytes}
 use Rattle.attribution_losses.proofs.loss.is_day.Statement.{statement}
 use Rattle.attribution_losses.proofs.loss.is_day.Tie as tie
 use Rattle.attribution_losses.proofs.loss.is_day.Reads as reads

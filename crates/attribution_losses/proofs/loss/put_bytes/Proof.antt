@@ -5,7 +5,7 @@ use Prim.Native.Nat.{ℕ, suc, _+_, _-_, _≤_, _<_}
 use mathlib.Core.List.{List, [], _∷_, _++_}
 use lib.ListN.{length, getD}
 use Rattle.attribution_losses.proofs.Listing.{puts-none, puts-turn, puts-as, bytes-none}
-use Rattle.attribution_parts.specs.Places.{bytes}
+use Rattle.attribution_reading.specs.Places.{bytes}
 use Rattle.attribution_losses.specs.Lists.{Puts}
 use Rattle.attribution_losses.proofs.loss.put_bytes.Statement.{statement}
 use Rattle.attribution_losses.proofs.loss.put_bytes.Tie as tie

@@ -14,7 +14,7 @@ use Rattle.attribution_losses.proofs.loss.cut_size.Reads as cut-size-re
 use Rattle.attribution_losses.proofs.loss.is_used.Reads as is-used-reads
 use Rattle.attribution_losses.proofs.loss.put_bytes.Reads as put-bytes-reads
 use Rattle.attribution_losses.proofs.loss.put_run.Reads as put-run-reads
-use Rattle.attribution_parts.proofs.scan.scan_at.Reads as scan-at-reads
+use Rattle.attribution_reading.proofs.scan.scan_at.Reads as scan-at-reads
 
 scan-at-requires : tie.Need-scan-at-requires
 scan-at-requires c κs = (c .before .before .pre .0, c .before .before .pre .1 .1 .stands .begins (c .before .before .pre .0))

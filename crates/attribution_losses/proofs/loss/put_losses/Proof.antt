@@ -9,9 +9,9 @@ use Rattle.attribution_losses.proofs.loss.put_losses.Statement.{stateme
 use Rattle.attribution_losses.proofs.loss.put_losses.Tie as tie
 use Rattle.attribution_losses.proofs.loss.put_losses.Reads as reads
 use Rattle.attribution_losses.proofs.loss.put_losses.Lts as lts
-use Rattle.attribution_parts.proofs.facts.leading_id.Reads as leading-id-reads
-use Rattle.attribution_parts.proofs.facts.read_ends.Reads as read-ends-reads
-use Rattle.attribution_parts.proofs.facts.read_fields.Reads as read-fields-reads
+use Rattle.attribution_reading.proofs.facts.leading_id.Reads as leading-id-reads
+use Rattle.attribution_reading.proofs.facts.read_ends.Reads as read-ends-reads
+use Rattle.attribution_reading.proofs.facts.read_fields.Reads as read-fields-reads
 use Rattle.attribution_losses.proofs.loss.is_day.Reads as is-day-reads
 use Rattle.attribution_losses.proofs.loss.is_passed.Reads as is-passed-reads
 use Rattle.attribution_losses.proofs.loss.put_groups.Reads as put-groups-reads

@@ -12,7 +12,7 @@ use Rattle.attribution_losses.proofs.loss.put_run.Lts as lts
 use Rattle.attribution_losses.proofs.loss.cut_size.Reads as cut-size-reads
 use Rattle.attribution_losses.proofs.loss.put_byte.Reads as put-byte-reads
 use Rattle.attribution_losses.proofs.loss.put_bytes.Reads as put-bytes-reads
-use Rattle.attribution_parts.proofs.scan.scan_at.Reads as scan-at-reads
+use Rattle.attribution_reading.proofs.scan.scan_at.Reads as scan-at-reads
 
 abbrev Inv-loop : tie.InvT-loop
 Inv-loop s start first ends buf₀ before at₀ i₀ to₀ buf at i to = Running s first start buf₀ before i at buf to

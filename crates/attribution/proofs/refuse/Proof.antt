@@ -1,0 +1,51 @@
+use borrow.Author.Needs.{needs}
+use native.Mathlib.Omega.{arith}
+use mathlib.Core.Path.{_≡_, refl, sym, ap, _∙_}
+use Prim.Native.Nat.{ℕ, suc, _+_, _-_, _≤_, _<_}
+use mathlib.Core.List.{List, [], _∷_, _++_}
+use lib.ListN.{length, getD}
+use Rattle.attribution.proofs.Formatting.{all-zero}
+use Rattle.attribution.proofs.refuse.Statement.{statement}
+use Rattle.attribution.proofs.refuse.Tie as tie
+use Rattle.attribution.proofs.refuse.Reads as reads
+use Rattle.attribution.proofs.refuse.Lts as lts
+use Rattle.text.proofs.write.lay_nothing.Reads as lay-nothing-reads
+use Rattle.text.proofs.zero.zero32.Reads as zero32-reads
+use Rattle.text.proofs.zero.zero8.Reads as zero8-reads
+
+lay-nothing-requires : tie.Need-lay-nothing-requires
+lay-nothing-requires c κs = search needs
+
+zero32-requires : tie.Need-zero32-requires
+zero32-requires c κs = search needs
+
+zero8-requires : tie.Need-zero8-requires
+zero8-requires c κs = search needs
+
+same-length : tie.Need-same-length
+same-length c = search needs
+
+same-length-2 : tie.Need-same-length-2
+same-length-2 c = search needs
+
+same-length-3 : tie.Need-same-length-3
+same-length-3 c = search needs
+
+same-length-4 : tie.Need-same-length-4
+same-length-4 c = search needs
+
+returns : tie.Need-returns
+returns c = let a = c .before .before .before .before .before .before .before .before .before .before .before .before .before .before .before .before .before .before .before .args in (refl, all-zero (length (a .out .now)) (length (a .origins .now)) (a .records .now) (a .«loss-bytes» .now) (c .before .before .before .before .before .before .before .before .before .before .before .before .lay-nothing .ensures) (c .before .before .before .before .before .before .zero32 .ensures) (c .before .before .zero8 .ensures))
+
+pub refuse-spec : {M : Type 1} → statement M
+refuse-spec =
+    tie.close
+    (tie.spec
+    lay-nothing-requires
+    zero32-requires
+    zero8-requires
+    same-length
+    same-length-2
+    same-length-3
+    same-length-4
+    returns)

@@ -1,0 +1,79 @@
+-- A whole call of `format_attribution`.
+--   formatted s m l b      what it answers for a text that is right: document 01's refusals 7, 8, 6, or the lengths
+--   answered s lent l b    the same with the refusals 1 to 4 first
+--   numberOfAnswer r       document 01's number of an answer: 0 where the call is not turned back
+--   countsOfAnswer r       its values: the caption's length, the losses and the loss bytes; 0 each on a refusal
+--   captionBy r s, recordsBy r s, wordsBy r s   the caption, the records and the loss bytes that an answer leaves; nothing on a refusal
+--   Holding ..             what the lent slices then hold
+--   Called ..              what comes back, and what the lent slices then hold
+--   Formatted ..           the same of a text that is right
+-- m, k: the lengths of the output and the origins; l, b: of the records and the loss bytes; w, n: of the work bytes and the work numbers.
+-- Assumes nothing.
+use mathlib.Core.Path.{_≡_}
+use Prim.Native.Nat.{ℕ, _/_}
+use mathlib.Core.Bool.{cond}
+use mathlib.Core.List.{List, [], _∷_}
+use lib.ListN.{length}
+use lib.Dec.{ltb}
+use Rattle.text.specs.Lent.{numberOf, checked}
+use Rattle.text.specs.Writes.{padded}
+use Rattle.text.specs.declared.lent.Refusal.the-variants.{NoSpace, TooManyLosses, LossBytesShort}
+use Rattle.text.specs.declared.lent.Spans.the-variants.{Without}
+use Rattle.text.specs.declared.lent.Lent.{Lent}
+use Rattle.text.specs.declared.lent.Checked.{Checked}
+use Rattle.text.specs.declared.lent.Checked.the-variants as C
+use Rattle.attribution_parts.specs.Attribution.{caption, losses}
+use Rattle.attribution_losses.specs.Lists.{recordsOf, lossWords}
+use Rattle.attribution.specs.declared.Attributed.{Attributed}
+use Rattle.attribution.specs.declared.Attributed.the-variants.{Done, Refused}
+
+-- a record takes five numbers
+unfoldable pub formatted : (s : List ℕ) → (m l b : ℕ) → Attributed
+formatted s m l b =
+    cond (ltb (l / 5) (length (losses s))) (Refused TooManyLosses)
+    (cond (ltb b (length (lossWords (losses s)))) (Refused LossBytesShort)
+    (cond (ltb m (length (caption s))) (Refused NoSpace)
+    (Done (length (caption s)) (length (losses s)) (length (lossWords (losses s))))))
+
+abbrev pub answerBy : Checked → (s : List ℕ) → (m l b : ℕ) → Attributed
+answerBy (C.Refused r) s m l b = Refused r
+answerBy C.Fine s m l b = formatted s m l b
+
+unfoldable pub answered : (s : List ℕ) → Lent → (l b : ℕ) → Attributed
+answered s lent l b = answerBy (checked s lent) s (lent .out) l b
+
+abbrev pub numberOfAnswer : Attributed → ℕ
+numberOfAnswer (Done length losses bytes) = 0
+numberOfAnswer (Refused r) = numberOf r
+
+abbrev pub countsOfAnswer : Attributed → List ℕ
+countsOfAnswer (Done length losses bytes) = length ∷ losses ∷ bytes ∷ []
+countsOfAnswer (Refused r) = 0 ∷ 0 ∷ 0 ∷ []
+
+abbrev pub captionBy : Attributed → List ℕ → List ℕ
+captionBy (Done length losses bytes) s = caption s
+captionBy (Refused r) s = []
+
+-- quote and line are 0
+abbrev pub recordsBy : Attributed → List ℕ → List ℕ
+recordsBy (Done length number bytes) s = recordsOf 0 0 0 (losses s)
+recordsBy (Refused r) s = []
+
+abbrev pub wordsBy : Attributed → List ℕ → List ℕ
+wordsBy (Done length number bytes) s = lossWords (losses s)
+wordsBy (Refused r) s = []
+
+-- the caption, origins that are all 0, the records and the loss bytes, with zeros behind each
+pub record Holding (text records words : List ℕ) (m k l b : ℕ) (out origins numbers bytes : List ℕ) : Type 0 where
+  pub written : out ≡ padded m text
+  pub from : origins ≡ padded k []
+  pub listed : numbers ≡ padded l records
+  pub lost : bytes ≡ padded b words
+
+pub record Called (s : List ℕ) (m k l b w n : ℕ) (r : Attributed) (out origins numbers bytes : List ℕ) : Type 0 where
+  pub answer : r ≡ answered s (record { out = m; origins = k; work = w; numbers = n; spans = Without }) l b
+  pub holds : Holding (captionBy r s) (recordsBy r s) (wordsBy r s) m k l b out origins numbers bytes
+
+pub record Formatted (s : List ℕ) (m k l b : ℕ) (r : Attributed) (out origins numbers bytes : List ℕ) : Type 0 where
+  pub answer : r ≡ formatted s m l b
+  pub holds : Holding (captionBy r s) (recordsBy r s) (wordsBy r s) m k l b out origins numbers bytes

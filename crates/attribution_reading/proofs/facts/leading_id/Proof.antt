@@ -1,0 +1,37 @@
+use borrow.Author.Needs.{needs}
+use native.Mathlib.Omega.{arith}
+use mathlib.Core.Path.{_≡_, refl, sym, ap, _∙_}
+use Prim.Native.Nat.{ℕ, suc, _+_, _-_, _≤_, _<_}
+use mathlib.Core.List.{List, [], _∷_, _++_}
+use lib.ListN.{length, getD}
+use Rattle.attribution_reading.proofs.Texts.{lead-end, lead-other, lead-found}
+use Rattle.attribution_reading.proofs.facts.leading_id.Statement.{statement}
+use Rattle.attribution_reading.proofs.facts.leading_id.Tie as tie
+use Rattle.attribution_reading.proofs.facts.leading_id.Reads as reads
+use Rattle.attribution_reading.proofs.facts.leading_id.Lts as lts
+use Rattle.attribution_reading.proofs.facts.is_leading.Reads as is-leading-reads
+use Rattle.attribution_reading.proofs.scan.first_at.Reads as first-at-reads
+use Rattle.attribution_reading.proofs.scan.scan_at.Reads as scan-at-reads
+
+first-at-requires : tie.Need-first-at-requires
+first-at-requires c κs = search needs
+
+scan-at-requires : tie.Need-scan-at-requires
+scan-at-requires c κs = (c .if1 .taken, c .before .first-at .ensures .begins (c .if1 .taken))
+
+is-leading-requires : tie.Need-is-leading-requires
+is-leading-requires c κs = let h = c .scan-at .ensures in omega (arith, h .ends, h .inside)
+
+returns : tie.Need-returns
+returns c = let a = c .before .before .before .before .before .before .args in lead-found (a .s .now) _ (c .before .before .before .before .first-at .ensures) _ (c .before .before .scan-at .ensures) (sym (c .before .is-leading .ensures) ∙ c .if2 .taken)
+
+returns-2 : tie.Need-returns-2
+returns-2 c = let a = c .before .before .before .before .before .before .args in lead-other (a .s .now) _ (c .before .before .before .before .first-at .ensures) _ (c .before .before .scan-at .ensures) (sym (c .before .is-leading .ensures) ∙ c .if2 .left)
+
+returns-3 : tie.Need-returns-3
+returns-3 c = let a = c .before .before .before .args in lead-end (a .s .now) _ (c .before .first-at .ensures) (c .if1 .left)
+
+pub leading-id-spec : {M : Type 1} → statement M
+leading-id-spec =
+    tie.close
+    (tie.spec first-at-requires scan-at-requires is-leading-requires returns returns-2 returns-3)

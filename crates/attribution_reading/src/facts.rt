@@ -1,0 +1,343 @@
+// What an attribution says: its first usable fields, its leading id, its last text and the split of it.
+use crate::scan::Place;
+use crate::scan::first_at;
+use crate::scan::scan_at;
+use attribution_parts::Kind;
+use day::all_digits;
+use text::PostAt;
+use text::scan::begins_at;
+use text::scan::is_inside;
+ghost use mathlib.Core.Path.{_≡_};
+ghost use mathlib.Core.List.{[]};
+ghost use Prim.Native.Nat.{_+_, _≤_, _<_};
+ghost use lib.ListN.{length};
+ghost use Rattle.text.specs.Ascii.{spells, digits};
+ghost use Rattle.attribution_parts.specs.Attribution.{isKind, isUsable, counts, isLeading, leading, given, toSuffix};
+ghost use Rattle.attribution_parts.specs.Parts.{parts};
+ghost use Rattle.attribution_reading.specs.Places.{partOf, Stands};
+ghost use Rattle.attribution_reading.specs.Reads.{FieldAt, FieldsAt, LeadAt, LastStep, LastAt, EndsAt};
+
+// Where a field's value stands (no bytes: there is none), and the field's index.
+pub struct Field {
+    pub from: usize,
+    pub size: usize,
+    pub index: usize,
+}
+
+// The first usable field of each kind.
+pub struct Fields {
+    pub name: Field,
+    pub post: Field,
+    pub id: Field,
+    pub date: Field,
+    pub time: Field,
+}
+
+// Where a leading id stands (no bytes: there is none); how many parts it takes, and where the next one begins.
+pub struct Lead {
+    pub from: usize,
+    pub size: usize,
+    pub count: usize,
+    pub next: usize,
+}
+
+// Where the last text that is not empty stands, the index behind it, and how many bytes the joined texts have.
+pub struct Last {
+    pub from: usize,
+    pub size: usize,
+    pub end: usize,
+    pub total: usize,
+}
+
+// The index behind the last text, how many bytes of it are a split `;digits`, how many of the joined texts are kept; and where the id of
+// the caption stands (no bytes: there is none).
+pub struct Ends {
+    pub end: usize,
+    pub cut: usize,
+    pub kept: usize,
+    pub from: usize,
+    pub size: usize,
+}
+
+fn is_word(word: &[u8], key: &[u8]) -> bool
+    ensures { λ r. ⌜ r ≡ spells (now (word .entry)) (now (key .entry)) ⌝ }
+{
+    if key.len() == word.len() {
+        return begins_at(key, PostAt(0), word);
+    }
+    false
+}
+
+fn is_kind(k: Kind, key: &[u8]) -> bool
+    ensures { λ r. ⌜ r ≡ isKind k (now (key .entry)) ⌝ }
+{
+    match k {
+        Kind::Name => {
+            if is_word(b"name", key) {
+                return true;
+            }
+            is_word(b"author", key)
+        }
+        Kind::PostId => is_word(b"post_id", key),
+        Kind::Id => is_word(b"id", key),
+        Kind::Date => is_word(b"date", key),
+        Kind::Time => is_word(b"time", key),
+    }
+}
+
+// One or more digits.
+fn is_digits(s: &[u8]) -> bool
+    ensures { λ r. ⌜ r ≡ digits (now (s .entry)) ⌝ }
+{
+    if s.len() == 0 {
+        return false;
+    }
+    all_digits(s)
+}
+
+fn is_usable(k: Kind, value: &[u8]) -> bool
+    ensures { λ r. ⌜ r ≡ isUsable k (now (value .entry)) ⌝ }
+{
+    match k {
+        Kind::Name => 0 < value.len(),
+        Kind::PostId => is_digits(value),
+        Kind::Id => is_digits(value),
+        Kind::Date => 0 < value.len(),
+        Kind::Time => 0 < value.len(),
+    }
+}
+
+// Whether a part is a usable field of a kind.
+fn counts_as(s: &[u8], p: Place, k: Kind) -> bool
+    requires { ⌜ (p .key + p .keylen ≤ length (now s)) × (p .from + p .size ≤ length (now s)) ⌝ }
+    ensures { λ r. ⌜ r ≡ counts k (partOf (now (s .entry)) p) ⌝ }
+{
+    if p.keylen == 0 {
+        return false;
+    }
+    let key = p.key;
+    let key_end = key + p.keylen;
+    if is_kind(k, &s[key..key_end]) {
+        let from = p.from;
+        let end = from + p.size;
+        return is_usable(k, &s[from..end]);
+    }
+    false
+}
+
+fn first_field(s: &[u8], k: Kind) -> Field
+    ensures { λ r. ⌜ FieldAt (now (s .entry)) k r ⌝ }
+{
+    let mut i: usize = 0;
+    let mut at = first_at(s);
+    while at < s.len() {
+        let p = scan_at(s, at);
+        if counts_as(s, p, k) {
+            return Field {
+                from: p.from,
+                size: p.size,
+                index: i,
+            };
+        }
+        i += 1;
+        at = p.next;
+    }
+    Field {
+        from: 0,
+        size: 0,
+        index: 0,
+    }
+}
+
+pub fn read_fields(s: &[u8]) -> Fields
+    ensures { λ r. ⌜ FieldsAt (now (s .entry)) r ⌝ }
+{
+    let name = first_field(s, Kind::Name);
+    let post = first_field(s, Kind::PostId);
+    let id = first_field(s, Kind::Id);
+    let date = first_field(s, Kind::Date);
+    let time = first_field(s, Kind::Time);
+    Fields {
+        name: name,
+        post: post,
+        id: id,
+        date: date,
+        time: time,
+    }
+}
+
+// Whether a part is a leading id, where it is the first one.
+fn is_leading(s: &[u8], p: Place) -> bool
+    requires { ⌜ p .from + p .size ≤ length (now s) ⌝ }
+    ensures { λ r. ⌜ r ≡ isLeading (partOf (now (s .entry)) p) ⌝ }
+{
+    if p.keylen == 0 {
+        if p.from == p.key {
+            return false;
+        }
+        let from = p.from;
+        let end = from + p.size;
+        return is_digits(&s[from..end]);
+    }
+    false
+}
+
+pub fn leading_id(s: &[u8]) -> Lead
+    ensures { λ r. ⌜ LeadAt (now (s .entry)) r ⌝ }
+{
+    let at = first_at(s);
+    if at < s.len() {
+        let p = scan_at(s, at);
+        if is_leading(s, p) {
+            return Lead {
+                from: p.from,
+                size: p.size,
+                count: 1,
+                next: p.next,
+            };
+        }
+    }
+    Lead {
+        from: 0,
+        size: 0,
+        count: 0,
+        next: at,
+    }
+}
+
+// The last text, and then the part behind it at the place p, which has the index i.
+fn with_part(s: &[u8], last: Last, p: Place, i: usize) -> Last
+    requires { ⌜ (last .total + p .size < 4294967296) × ((i < 4294967296) × (p .from + p .size ≤ length (now s))) ⌝ }
+    ensures { λ r. ⌜ LastStep (now (s .entry)) last p i r ⌝ }
+{
+    if p.keylen == 0 {
+        if 0 < p.size {
+            if last.total == 0 {
+                return Last {
+                    from: p.from,
+                    size: p.size,
+                    end: i + 1,
+                    total: p.size,
+                };
+            }
+            return Last {
+                from: p.from,
+                size: p.size,
+                end: i + 1,
+                total: last.total + 1 + p.size,
+            };
+        }
+    }
+    last
+}
+
+// The last text that is not empty, from part i on, which begins at `start`.
+fn last_text(s: &[u8], count: usize, start: usize) -> Last
+    requires { ⌜ (length (now s) ≤ 1073741824) × (Stands (now s) count start × (count ≤ start)) ⌝ }
+    ensures { λ r. ⌜ LastAt (now (s .entry)) count r ⌝ }
+{
+    let mut i = count;
+    let mut at = start;
+    let mut last = Last {
+        from: 0,
+        size: 0,
+        end: 0,
+        total: 0,
+    };
+    while at < s.len() {
+        let p = scan_at(s, at);
+        last = with_part(s, last, p, i);
+        i += 1;
+        at = p.next;
+    }
+    last
+}
+
+// Where `;` and one or more digits to the end start; the end where there are none. Read from the end.
+fn suffix_start(s: &[u8]) -> usize
+    ensures { λ r. ⌜ r ≡ toSuffix (now (s .entry)) ⌝ }
+{
+    let mut i = s.len();
+    while 0 < i {
+        let j = i - 1;
+        if is_inside(b'0', b'9', s[j]) {
+            i = j;
+        } else {
+            if s[j] == b';' {
+                if i < s.len() {
+                    return j;
+                }
+                return s.len();
+            }
+            return s.len();
+        }
+    }
+    s.len()
+}
+
+// The split `;digits` of the last text, where no id is given otherwise: at least one byte of the joined texts stands before it.
+fn split_of(s: &[u8], last: Last) -> Ends
+    requires { ⌜ (length (now s) ≤ 1073741824) × (LastAt (now s) (leading (parts 0 (now s))) last × (given (parts 0 (now s)) ≡ [])) ⌝ }
+    ensures { λ r. ⌜ EndsAt (now (s .entry)) r ⌝ }
+{
+    let from = last.from;
+    let end = from + last.size;
+    let start = suffix_start(&s[from..end]);
+    let cut = last.size - start;
+    if 0 < cut {
+        if cut < last.total {
+            return Ends {
+                end: last.end,
+                cut: cut,
+                kept: last.total - cut,
+                from: from + start + 1,
+                size: cut - 1,
+            };
+        }
+    }
+    Ends {
+        end: last.end,
+        cut: 0,
+        kept: last.total,
+        from: 0,
+        size: 0,
+    }
+}
+
+// The split and the caption's id.
+pub fn read_ends(s: &[u8], fields: Fields, lead: Lead) -> Ends
+    requires { ⌜ (length (now s) ≤ 1073741824) × (FieldsAt (now s) fields × LeadAt (now s) lead) ⌝ }
+    ensures { λ r. ⌜ EndsAt (now (s .entry)) r ⌝ }
+{
+    let last = last_text(s, lead.count, lead.next);
+    let post = fields.post;
+    if 0 < post.size {
+        return Ends {
+            end: last.end,
+            cut: 0,
+            kept: last.total,
+            from: post.from,
+            size: post.size,
+        };
+    }
+    let id = fields.id;
+    if 0 < id.size {
+        return Ends {
+            end: last.end,
+            cut: 0,
+            kept: last.total,
+            from: id.from,
+            size: id.size,
+        };
+    }
+    if 0 < lead.size {
+        return Ends {
+            end: last.end,
+            cut: 0,
+            kept: last.total,
+            from: lead.from,
+            size: lead.size,
+        };
+    }
+    split_of(s, last)
+}

@@ -1,0 +1,3 @@
+// Attributions: parts, fields and texts, and what is read off them.
+pub mod facts;
+pub mod scan;
