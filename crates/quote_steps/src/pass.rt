@@ -78,7 +78,7 @@ fn take_token(
             starts,
             tags,
             depth,
-            t,
+            to,
             out,
             origins,
         );
@@ -162,7 +162,7 @@ fn close_open(
             starts,
             tags,
             open,
-            to,
+            TextAt(to),
             out,
             origins,
         );
