@@ -8,7 +8,7 @@ use lib.Seq.{length-take-le, take-take, take-length, take-add, drop-at}
 use Rattle.text.specs.Cells.{Cell, cells, part, written, cellsFrom}
 use Rattle.text.specs.Writes.{Appends}
 use Rattle.text.proofs.Writing.{cells-short}
-use Rattle.attribution_parts.specs.Places.{bytes}
+use Rattle.attribution_reading.specs.Places.{bytes}
 use Rattle.attribution_parts.specs.Attribution.{caption}
 use Rattle.attribution_losses.specs.Captions.{nameTexts}
 use Rattle.attribution_losses.specs.Lists.{Puts}
