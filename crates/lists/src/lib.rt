@@ -38,7 +38,7 @@ fn refuse(r: Refusal, out: &mut [u8], origins: &mut [u32]) -> Listed
 }
 
 // Whether a list opener is met while 64 lists are open, in the first n cells.
-fn is_deep(n: usize, work: &[u8], numbers: &[u32]) -> bool
+pub fn is_deep(n: usize, work: &[u8], numbers: &[u32]) -> bool
     requires { ⌜ (n ≤ length (now work)) × (n ≤ length (now numbers)) ⌝ }
     ensures { λ r. ⌜ r ≡ tooDeep (cells (take n (now (work .entry))) (take n (now (numbers .entry)))) ⌝ }
 {

@@ -5,11 +5,11 @@ use Prim.Native.Nat.{ℕ, _+_, _-_, _≤_, _<_}
 use native.Mathlib.Omega.{arith}
 use native.Mathlib.Decide.{decLe}
 use lib.ListN.{length, take, drop, getD, set, length-drop}
-use lib.Seq.{getD-drop, take-suc, take-suc-set, take-take, drop-set-lt, drop-drop}
+use lib.Seq.{length-take-le, getD-drop, take-suc, take-suc-set, take-take, drop-set-lt, drop-drop}
 use native.Mathlib.Numerals.{add-one}
 use Rattle.text.specs.Cells.{Cell, cells, part}
 use Rattle.text.specs.Writes.{Holds, Appends, LaidOut}
-use Rattle.text.proofs.Writing.{cells-le, cells-short, holds-fits}
+use Rattle.text.proofs.Writing.{cells-le}
 use Rattle.text.proofs.Sources.{cells-taken, cells-sub, part-take}
 use Rattle.quote_steps.specs.Passes.{Leaves}
 use Rattle.list_blocks.specs.Lists.{lists, listsNeed}
@@ -25,29 +25,19 @@ part-within : (a e k : ℕ) (v : List Cell) → e ≤ k → part a e (take k v) 
 unfolding part
 part-within a e k v h = ap (drop a) (take-take e k v h)
 
--- ---- marks
+-- ---- copying to the front
 
 nothing-held : (v : List Cell) → Holds v 0 []
 nothing-held v = record { end = λ h. refl; text = λ h. refl; full = λ h. absurd (omega arith) }
 
-module _ (os gs : List ℕ) (m n : ℕ) (x : List Cell) (h : Holds (cells os gs) n x) (lo : length os ≡ m) (lg : m ≤ length gs) where
-  size : length (cells os gs) ≡ m
-  size = let a = cells-le os gs m (omega arith) lg in let b = cells-short os gs in omega arith
-
-  pub marks-full : (bs ns : List ℕ) → m < n → Fills m (length x) x n bs ns
-  marks-full bs ns far = record { fits = λ k. absurd (let l = size in let e = h .end (omega arith) in omega arith); full = λ k. far }
-
-  pub marks-done : (w : List Cell) (bs ns : List ℕ) (r : ℕ) → n ≤ m → m ≤ length bs → m ≤ length ns → Appends w 0 (cells bs ns) r (part 0 n (cells os gs)) → Fills m (length x) x n bs ns
-  marks-done w bs ns r near hb hn a =
-      let l = size in
-      let room = cells-le bs ns m hb hn in
-      let k : length x ≤ length (cells os gs) = holds-fits (cells os gs) n x h (omega arith) in
-      let y : part 0 n (cells os gs) ≡ x = part-front n (cells os gs) ∙ h .text k in
-      let t : Holds (cells bs ns) r x = rw y at (a .step [] (nothing-held w)) in
-      let j : n ≡ length x = h .end k in
-      let z : r ≡ length x = t .end (omega arith) in
-      let q : n ≡ r = omega arith in
-      record { fits = λ i. (j, ap (λ (e : ℕ). take e (cells bs ns)) q ∙ t .text (omega arith)); full = λ i. absurd (omega arith) }
+-- the first n cells of v have been copied to the front
+pub copied-front : (v w : List Cell) (bs ns : List ℕ) (n r : ℕ) → n ≤ length v → n ≤ length bs → n ≤ length ns → Appends w 0 (cells bs ns) r (part 0 n v) → take n (cells bs ns) ≡ take n v
+copied-front v w bs ns n r h hb hn a =
+    let room = cells-le bs ns n hb hn in
+    let t : Holds (cells bs ns) r (take n v) = rw (part-front n v) at (a .step [] (nothing-held w)) in
+    let l = length-take-le n v h in
+    let z : n ≡ r = (let e = t .end (omega arith) in omega arith) in
+    ap (λ (e : ℕ). take e (cells bs ns)) z ∙ t .text (omega arith)
 
 -- ---- moving to the front
 

@@ -1,5 +1,4 @@
-// The passes of the chain, one by one, over work memory: each reads its source at the front of the work pair, and leaves its text there.
+// The passes of the chain that stand in work memory: quotes, which reads the marks text, and lists, which reads what quotes hands on.
 pub mod front;
 pub mod list;
-pub mod mark;
 pub mod quote;

@@ -73,7 +73,7 @@ fn list_own(
 }
 
 // The first of the refusals 5, 7, 8 that applies: the text is too deep, its losses are more than the records, or longer than the bytes.
-fn refusal_of(deep: bool, many: bool, long: bool) -> Checked
+pub fn refusal_of(deep: bool, many: bool, long: bool) -> Checked
     ensures { λ r. ⌜ r ≡ limited deep many long ⌝ }
 {
     if deep {

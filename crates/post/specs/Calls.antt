@@ -1,0 +1,92 @@
+-- A whole call of `bbcode_to_carve`, which is lent m output bytes, k origins, j record numbers (five a record) and b loss bytes. Document 01,
+-- "Whole post": 1 to 4 once, then marks 6, quotes 5, 7, 8, 6, lists 5, 6.
+--   listing x m a w          the answer for what quotes hands on, with a losses and w loss bytes: lists 5, 6
+--   quoting x m a w          the answer for a marks text within quotes' limits: quotes 6, then these
+--   marked x m j b           the answer for a marks text: quotes 5, 7, 8, then these
+--   converted post m j b     the answer for a post that is right: marks 6, then these
+--   answered post lent j b   the answer of the call: document 01's refusals 1 to 4, then these
+--   numberOfAnswer r         document 01's number of an answer: 0 where the post is converted
+--   countsOfAnswer r         its values: the text's length, the losses and the loss bytes; 0 each on a refusal
+--   ifDone r l               l, or nothing on a refusal
+--   Ends ..                  what comes back, and what the four lent slices then hold
+--   Called ..                this of a whole call
+--   Copied ..                demand 3 of the bytes and origins that a call leaves
+-- Assumes nothing.
+use mathlib.Core.Path.{_≡_}
+use Prim.Native.Nat.{ℕ, _/_}
+use mathlib.Core.Bool.{Bool, cond}
+use mathlib.Core.List.{List, [], _∷_}
+use lib.ListN.{length, take}
+use lib.Dec.{ltb}
+use Rattle.text.specs.Cells.{Cell}
+use Rattle.text.specs.Lent.{numberOf, checked}
+use Rattle.text.specs.Origins.{CopiedByOrigin}
+use Rattle.text.specs.declared.lent.Refusal.the-variants.{TooDeep, NoSpace}
+use Rattle.text.specs.declared.lent.Spans.the-variants.{Without}
+use Rattle.text.specs.declared.lent.Lent.{Lent}
+use Rattle.text.specs.declared.lent.Checked.{Checked}
+use Rattle.text.specs.declared.lent.Checked.the-variants as C
+use Rattle.attribution_parts.specs.Attribution.{caption}
+use Rattle.quote_blocks.specs.Quotes as Quotes
+use Rattle.quotes.specs.Losses.{quoteLosses, lossBytes, lossRecords}
+use Rattle.quotes.specs.Calls.{limited, Filled}
+use Rattle.list_blocks.specs.Tags as ListTags
+use Rattle.list_blocks.specs.Lists.{lists, listsNeed}
+use Rattle.post.specs.Post.{marksText, finished, Consumed}
+use Rattle.post.specs.declared.Posted.{Posted}
+use Rattle.post.specs.declared.Posted.the-variants.{Done, Refused}
+
+unfoldable pub listing : (x : List Cell) → (m a w : ℕ) → Posted
+listing x m a w = cond (ListTags.tooDeep x) (Refused TooDeep) (cond (ltb m (listsNeed x)) (Refused NoSpace) (Done (length (lists x)) a w))
+
+unfoldable pub quoting : (x : List Cell) → (m a w : ℕ) → Posted
+quoting x m a w = cond (ltb m (Quotes.quotesNeed caption x)) (Refused NoSpace) (listing (Quotes.quotes caption x) m a w)
+
+-- a refusal, or what else is answered
+abbrev pub answerBy : Checked → Posted → Posted
+answerBy (C.Refused r) else = Refused r
+answerBy C.Fine else = else
+
+-- a record takes five numbers
+unfoldable pub marked : (x : List Cell) → (m j b : ℕ) → Posted
+marked x m j b =
+    answerBy (limited (Quotes.tooDeep x) (ltb (j / 5) (length (quoteLosses x))) (ltb b (length (lossBytes x)))) (quoting x m (length (quoteLosses x)) (length (lossBytes x)))
+
+unfoldable pub converted : (post : List ℕ) → (m j b : ℕ) → Posted
+converted post m j b = cond (ltb m (length (marksText post))) (Refused NoSpace) (marked (marksText post) m j b)
+
+unfoldable pub answered : (post : List ℕ) → Lent → (j b : ℕ) → Posted
+answered post lent j b = answerBy (checked post lent) (converted post (lent .out) j b)
+
+abbrev pub numberOfAnswer : Posted → ℕ
+numberOfAnswer (Done size losses words) = 0
+numberOfAnswer (Refused r) = numberOf r
+
+abbrev pub countsOfAnswer : Posted → List ℕ
+countsOfAnswer (Done size losses words) = size ∷ losses ∷ words ∷ []
+countsOfAnswer (Refused r) = 0 ∷ 0 ∷ 0 ∷ []
+
+abbrev pub ifDone : {A : Type 0} → Posted → List A → List A
+ifDone (Done size losses words) l = l
+ifDone (Refused r) l = []
+
+-- what comes back is r: what it has to be is `wanted`; where it is done, the text t, the records rs and the loss bytes ws are left
+pub record Ends (t : List Cell) (rs ws : List ℕ) (m k j b : ℕ) (wanted r : Posted) (out plain records words : List ℕ) : Type 0 where
+  pub answer : r ≡ wanted
+  pub filled : Filled (ifDone r t) (ifDone r rs) (ifDone r ws) m k j b out plain records words
+
+-- w work bytes and n work numbers are lent
+abbrev pub Called : (post : List ℕ) (m k j b w n : ℕ) (r : Posted) (out plain records words : List ℕ) → Type 0
+Called post m k j b w n r out plain records words =
+    Ends (finished post) (lossRecords post (marksText post)) (lossBytes (marksText post)) m k j b
+    (answered post (record { out = m; origins = k; work = w; numbers = n; spans = Without }) j b) r out plain records words
+
+-- of every converted post: the bytes and origins that are left are copied by origin
+abbrev pub Copied : (post : List ℕ) → Posted → (out plain : List ℕ) → Type 0
+Copied post (Done size losses words) out plain = CopiedByOrigin post (Consumed post) (take size out) (take size plain)
+Copied post (Refused r) out plain = Unit
+
+-- all of this module, for `unfolding` where a closed call is to be computed
+unfoldable pub computes : Unit {0}
+unfolding listing quoting marked converted answered
+computes = tt
