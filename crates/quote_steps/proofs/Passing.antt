@@ -16,19 +16,13 @@ use Rattle.text.specs.Writes.{Holds, Appends, AppendsIn}
 use Rattle.text.proofs.Writing.{holds-fits, cells-le, cells-short, cells-at, part-cons, part-end}
 use Rattle.text.proofs.Areas.{area-length}
 use Rattle.text.proofs.Clearing.{cells-bytes}
+use Rattle.text.proofs.Sources.{cells-taken}
 use Rattle.quote_blocks.proofs.Reading.{read-opener, read-closer, read-text, read-end}
 use Rattle.quote_lines.specs.Tags.{attributionOf, openerSize, closerSize}
 use Rattle.quote_blocks.specs.Quotes.{Token, text, opens, closes, tokens, Quote, State, start, opening, held, total, close, closed, step, finish, run, quotes, finishNeed, runNeed, quotesNeed, quoteBlock, tooDeepFrom, tooDeep}
 use Rattle.quote_steps.specs.Passes.{Stood, Stands, Closes, ClosesIn, Takes, TakesOne, Leaves, ClosesLast, ClosesAll, Reached, Runs}
 
 -- ---- an area
-
-cells-taken : (k : ℕ) (bs ns : List ℕ) → cells (take k bs) (take k ns) ≡ take k (cells bs ns)
-unfolding cells
-cells-taken zero bs ns = refl
-cells-taken (suc k) [] ns = refl
-cells-taken (suc k) (b ∷ bs) [] = refl
-cells-taken (suc k) (b ∷ bs) (n ∷ ns) = ap (λ (l : List Cell). cell b n ∷ l) (cells-taken k bs ns)
 
 -- it goes by what stands in it
 pub cells-front : (k : ℕ) (bs bs' ns : List ℕ) → take k bs' ≡ take k bs → take k (cells bs' ns) ≡ take k (cells bs ns)

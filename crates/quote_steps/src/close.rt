@@ -22,23 +22,24 @@ const FULL: usize = 0xffff_ffff_ffff_ffff;
 
 // Where an attribution stands.
 pub struct Extent {
-    pub from: usize,
-    pub to: usize,
+    pub from: PostAt,
+    pub to: PostAt,
 }
 
-// The attribution of the opener at a place.
-fn attribution_of(s: &[u8], tag: usize) -> Extent
-    requires { ⌜ tag ≤ length (now s) ⌝ }
-    ensures { λ r. ⌜ ((r .from ≤ r .to) × (r .to ≤ length (now (s .entry)))) × (take (r .to - r .from) (drop (r .from) (now (s .entry))) ≡ attributionOf (drop tag (now (s .entry)))) ⌝ }
+// The attribution of the opener at a place: between `[quote=` and `]`.
+fn attribution_of(s: &[u8], tag: PostAt) -> Extent
+    requires { ⌜ tag .0 ≤ length (now s) ⌝ }
+    ensures { λ r. ⌜ ((r .from .0 ≤ r .to .0) × (r .to .0 ≤ length (now (s .entry)))) × (take (r .to .0 - r .from .0) (drop (r .from .0) (now (s .entry))) ≡ attributionOf (drop (tag .0) (now (s .entry)))) ⌝ }
 {
-    let bracket = next_bracket(s, PostAt(tag));
-    let k = opener_size(s, PostAt(tag), bracket);
+    let i = tag.0;
+    let bracket = next_bracket(s, tag);
+    let k = opener_size(s, tag, bracket);
     if k < 9 {
         return Extent { from: tag, to: tag };
     }
     Extent {
-        from: tag + 7,
-        to: tag + k - 1,
+        from: PostAt(i + 7),
+        to: PostAt(i + k - 1),
     }
 }
 
@@ -49,18 +50,22 @@ fn build_block(
     numbers: &[u32],
     e: usize,
     end: usize,
-    tag: usize,
-    begin: usize,
-    to: usize,
+    tag: PostAt,
+    begin: TextAt,
+    to: TextAt,
     out: &mut [u8],
     origins: &mut [u32],
 ) -> TextAt
-    requires { ⌜ ((tag ≤ e) × ((e ≤ end) × ((begin ≤ to) × (to ≤ end)))) × (((end + length (now out) ≤ length (now work)) × (end ≤ length (now numbers))) × (end ≤ 268435456)) ⌝ }
-    ensures { λ r. ⌜ (take end (now (work .exit)) ≡ take end (now (work .entry))) × Appends (cells (now (out .entry)) (now (origins .entry))) 0 (cells (now (out .exit)) (now (origins .exit))) (r .0) (quoteBlock (caption (attributionOf (drop tag (take e (now (work .entry)))))) (part begin to (cells (now (work .entry)) (now (numbers .entry))))) ⌝ }
+    requires { ⌜ ((tag .0 ≤ e) × ((e ≤ end) × ((begin .0 ≤ to .0) × (to .0 ≤ end)))) × (((end + length (now out) ≤ length (now work)) × (end ≤ length (now numbers))) × (end ≤ 268435456)) ⌝ }
+    ensures { λ r. ⌜ (take end (now (work .exit)) ≡ take end (now (work .entry))) × Appends (cells (now (out .entry)) (now (origins .entry))) 0 (cells (now (out .exit)) (now (origins .exit))) (r .0) (quoteBlock (caption (attributionOf (drop (tag .0) (take e (now (work .entry)))))) (part (begin .0) (to .0) (cells (now (work .entry)) (now (numbers .entry))))) ⌝ }
 {
     let words = attribution_of(&work[..e], tag);
-    let a = words.from;
-    let b = words.to;
+    let from = words.from;
+    let last = words.to;
+    let a = from.0;
+    let b = last.0;
+    let first = begin.0;
+    let past = to.0;
     let j = join_texts(work, a, b, end);
     if work.len() < j {
         return TextAt(FULL);
@@ -69,8 +74,8 @@ fn build_block(
     quote_block(
         memory,
         numbers,
-        PostAt(begin),
-        PostAt(to),
+        PostAt(first),
+        PostAt(past),
         &memory[a..b],
         &memory[end..j],
         out,
@@ -84,14 +89,14 @@ fn close_quote(
     numbers: &mut [u32],
     e: usize,
     end: usize,
-    tag: usize,
-    begin: usize,
-    to: usize,
+    tag: PostAt,
+    begin: TextAt,
+    to: TextAt,
     out: &mut [u8],
     origins: &mut [u32],
 ) -> TextAt
-    requires { ⌜ ((tag ≤ e) × ((e ≤ end) × ((begin ≤ to) × (to ≤ end)))) × Lent begin end (now work) (now numbers) (now out) (now origins) ⌝ }
-    ensures { λ r. ⌜ (begin ≤ r .0) × ClosesIn (now (work .entry)) (now (numbers .entry)) end begin to (now (work .exit)) (now (numbers .exit)) (r .0) (quoteBlock (caption (attributionOf (drop tag (take e (now (work .entry))))))) ⌝ }
+    requires { ⌜ ((tag .0 ≤ e) × ((e ≤ end) × ((begin .0 ≤ to .0) × (to .0 ≤ end)))) × Lent (begin .0) end (now work) (now numbers) (now out) (now origins) ⌝ }
+    ensures { λ r. ⌜ (begin .0 ≤ r .0) × ClosesIn (now (work .entry)) (now (numbers .entry)) end (begin .0) (to .0) (now (work .exit)) (now (numbers .exit)) (r .0) (quoteBlock (caption (attributionOf (drop (tag .0) (take e (now (work .entry))))))) ⌝ }
 {
     let n = build_block(work, numbers, e, end, tag, begin, to, out, origins);
     let len = n.0;
@@ -106,35 +111,36 @@ fn close_quote(
         work,
         numbers,
         end,
-        TextAt(begin),
+        begin,
     )
 }
 
 // The start at an index, from base up to `to`.
-fn start_of(starts: &[u32], d: usize, base: usize, to: usize) -> usize
-    requires { ⌜ (base ≤ to) × (d < length (now starts)) ⌝ }
-    ensures { λ r. ⌜ ((base ≤ r) × (r ≤ to)) × (base ≤ getD (now (starts .entry)) d 0 → getD (now (starts .entry)) d 0 ≤ to → r ≡ getD (now (starts .entry)) d 0) ⌝ }
+fn start_of(starts: &[u32], d: usize, base: usize, to: TextAt) -> TextAt
+    requires { ⌜ (base ≤ to .0) × (d < length (now starts)) ⌝ }
+    ensures { λ r. ⌜ ((base ≤ r .0) × (r .0 ≤ to .0)) × (base ≤ getD (now (starts .entry)) d 0 → getD (now (starts .entry)) d 0 ≤ to .0 → r .0 ≡ getD (now (starts .entry)) d 0) ⌝ }
 {
     let s = starts[d] as usize;
+    let t = to.0;
     if s < base {
-        return base;
+        return TextAt(base);
     }
-    if to < s {
+    if t < s {
         return to;
     }
-    s
+    TextAt(s)
 }
 
 // The place of an opener at an index, up to e.
-fn tag_of(tags: &[u32], d: usize, e: usize) -> usize
+fn tag_of(tags: &[u32], d: usize, e: usize) -> PostAt
     requires { ⌜ d < length (now tags) ⌝ }
-    ensures { λ r. ⌜ (r ≤ e) × (getD (now (tags .entry)) d 0 ≤ e → r ≡ getD (now (tags .entry)) d 0) ⌝ }
+    ensures { λ r. ⌜ (r .0 ≤ e) × (getD (now (tags .entry)) d 0 ≤ e → r .0 ≡ getD (now (tags .entry)) d 0) ⌝ }
 {
     let t = tags[d] as usize;
     if e < t {
-        return e;
+        return PostAt(e);
     }
-    t
+    PostAt(t)
 }
 
 // Closes the innermost open quote.
@@ -147,12 +153,12 @@ pub fn close_innermost(
     starts: &[u32],
     tags: &[u32],
     open: usize,
-    to: usize,
+    to: TextAt,
     out: &mut [u8],
     origins: &mut [u32],
 ) -> TextAt
-    requires { ⌜ ((e ≤ base) × ((base ≤ to) × (to ≤ end))) × (Lent base end (now work) (now numbers) (now out) (now origins) × ((0 < «open») × ((«open» ≤ length (now starts)) × («open» ≤ length (now tags))))) ⌝ }
-    ensures { λ r. ⌜ (base ≤ r .0) × ((take e (now (work .exit)) ≡ take e (now (work .entry))) × ClosesLast caption e base end (now (work .entry)) (now (numbers .entry)) to (now (starts .entry)) (now (tags .entry)) «open» (now (work .exit)) (now (numbers .exit)) (r .0)) ⌝ }
+    requires { ⌜ ((e ≤ base) × ((base ≤ to .0) × (to .0 ≤ end))) × (Lent base end (now work) (now numbers) (now out) (now origins) × ((0 < «open») × ((«open» ≤ length (now starts)) × («open» ≤ length (now tags))))) ⌝ }
+    ensures { λ r. ⌜ (base ≤ r .0) × ((take e (now (work .exit)) ≡ take e (now (work .entry))) × ClosesLast caption e base end (now (work .entry)) (now (numbers .entry)) (to .0) (now (starts .entry)) (now (tags .entry)) «open» (now (work .exit)) (now (numbers .exit)) (r .0)) ⌝ }
 {
     let begin = start_of(starts, open - 1, base, to);
     let tag = tag_of(tags, open - 1, e);

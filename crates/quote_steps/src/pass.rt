@@ -13,8 +13,11 @@ ghost use lib.ListN.{length, take, drop};
 ghost use Rattle.text.specs.Cells.{cells};
 ghost use Rattle.attribution_parts.specs.Attribution.{caption};
 ghost use Rattle.quote_lines.specs.Tags.{NextBracket, openerSize};
-ghost use Rattle.quote_blocks.specs.Quotes.{tooDeep, quotes, quotesNeed};
+ghost use Rattle.quote_blocks.specs.Quotes.{quotesMost, tooDeep, quotes, quotesNeed};
 ghost use Rattle.quote_steps.specs.Passes.{Lent, ClosesAll, TakesOne, Runs, Leaves};
+
+// How many quotes may be open.
+pub const QUOTES_MOST: usize = 64;
 
 // What is open behind a place of the text: the next `]`, where the contents end, and how many quotes.
 pub struct Open {
@@ -37,8 +40,8 @@ fn take_token(
     out: &mut [u8],
     origins: &mut [u32],
 ) -> Open
-    requires { ⌜ (((from .at .0 < e) × ((e ≤ base) × ((base ≤ from .to .0) × (from .to .0 ≤ end)))) × Lent base end (now work) (now numbers) (now out) (now origins)) × (((length (now starts) ≡ 64) × ((length (now tags) ≡ 64) × (from .depth ≤ 64))) × (NextBracket (take e (now work)) (from .at .0) (from .bracket .0) × ((openerSize (drop (from .at .0) (take e (now work))) ≡ 0 → ⊥) → from .depth < 64))) ⌝ }
-    ensures { λ r. ⌜ (((from .at .0 < r .at .0) × ((r .at .0 ≤ e) × ((base ≤ r .to .0) × (r .depth ≤ 64)))) × ((take e (now (work .exit)) ≡ take e (now (work .entry))) × NextBracket (take e (now (work .exit))) (r .at .0) (r .bracket .0))) × TakesOne caption e base end (now (work .entry)) (now (numbers .entry)) (from .to .0) (now (starts .entry)) (now (tags .entry)) (from .depth) (from .at .0) (now (work .exit)) (now (numbers .exit)) (r .to .0) (now (starts .exit)) (now (tags .exit)) (r .depth) (r .at .0) ⌝ }
+    requires { ⌜ (((from .at .0 < e) × ((e ≤ base) × ((base ≤ from .to .0) × (from .to .0 ≤ end)))) × Lent base end (now work) (now numbers) (now out) (now origins)) × (((length (now starts) ≡ quotesMost) × ((length (now tags) ≡ quotesMost) × (from .depth ≤ quotesMost))) × (NextBracket (take e (now work)) (from .at .0) (from .bracket .0) × ((openerSize (drop (from .at .0) (take e (now work))) ≡ 0 → ⊥) → from .depth < quotesMost))) ⌝ }
+    ensures { λ r. ⌜ (((from .at .0 < r .at .0) × ((r .at .0 ≤ e) × ((base ≤ r .to .0) × (r .depth ≤ quotesMost)))) × ((take e (now (work .exit)) ≡ take e (now (work .entry))) × NextBracket (take e (now (work .exit))) (r .at .0) (r .bracket .0))) × TakesOne caption e base end (now (work .entry)) (now (numbers .entry)) (from .to .0) (now (starts .entry)) (now (tags .entry)) (from .depth) (from .at .0) (now (work .exit)) (now (numbers .exit)) (r .to .0) (now (starts .exit)) (now (tags .exit)) (r .depth) (r .at .0) ⌝ }
 {
     let at = from.at;
     let known = from.bracket;
@@ -78,7 +81,7 @@ fn take_token(
             starts,
             tags,
             depth,
-            t,
+            to,
             out,
             origins,
         );
@@ -110,8 +113,8 @@ fn take_tokens(
     out: &mut [u8],
     origins: &mut [u32],
 ) -> Open
-    requires { ⌜ (((e ≤ base) × (base ≤ end)) × Lent base end (now work) (now numbers) (now out) (now origins)) × (((length (now starts) ≡ 64) × (length (now tags) ≡ 64)) × (tooDeep (take e (cells (now work) (now numbers))) ≡ false)) ⌝ }
-    ensures { λ r. ⌜ (((base ≤ r .to .0) × (r .depth ≤ 64)) × (take e (now (work .exit)) ≡ take e (now (work .entry)))) × Runs caption e base end (take base (cells (now (work .entry)) (now (numbers .entry)))) (take end (cells (now (work .exit)) (now (numbers .exit)))) (r .to .0) (now (starts .exit)) (now (tags .exit)) (r .depth) ⌝ }
+    requires { ⌜ (((e ≤ base) × (base ≤ end)) × Lent base end (now work) (now numbers) (now out) (now origins)) × (((length (now starts) ≡ quotesMost) × (length (now tags) ≡ quotesMost)) × (tooDeep (take e (cells (now work) (now numbers))) ≡ false)) ⌝ }
+    ensures { λ r. ⌜ (((base ≤ r .to .0) × (r .depth ≤ quotesMost)) × (take e (now (work .exit)) ≡ take e (now (work .entry)))) × Runs caption e base end (take base (cells (now (work .entry)) (now (numbers .entry)))) (take end (cells (now (work .exit)) (now (numbers .exit)))) (r .to .0) (now (starts .exit)) (now (tags .exit)) (r .depth) ⌝ }
 {
     let mut st = Open {
         at: PostAt(0),
@@ -162,7 +165,7 @@ fn close_open(
             starts,
             tags,
             open,
-            to,
+            TextAt(to),
             out,
             origins,
         );
@@ -189,8 +192,8 @@ pub fn quote_pass(
     requires { ⌜ (((e ≤ base) × (base ≤ end)) × Lent base end (now work) (now numbers) (now out) (now origins)) × (tooDeep (take e (cells (now work) (now numbers))) ≡ false) ⌝ }
     ensures { λ r. ⌜ (take e (now (work .exit)) ≡ take e (now (work .entry))) × Leaves base end (take end (cells (now (work .exit)) (now (numbers .exit)))) (r .0) (quotes caption (take e (cells (now (work .entry)) (now (numbers .entry))))) (quotesNeed caption (take e (cells (now (work .entry)) (now (numbers .entry))))) ⌝ }
 {
-    let mut starts: [u32; 64] = [0; 64];
-    let mut tags: [u32; 64] = [0; 64];
+    let mut starts: [u32; QUOTES_MOST] = [0; QUOTES_MOST];
+    let mut tags: [u32; QUOTES_MOST] = [0; QUOTES_MOST];
     let st = take_tokens(
         work,
         numbers,

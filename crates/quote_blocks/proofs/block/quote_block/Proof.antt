@@ -32,7 +32,7 @@ same-length-2 : tie.Need-same-length-2
 same-length-2 c = search needs
 
 returns : tie.Need-returns
-returns c = block-by _ _ (c .before .before .before .before .before .before .before .before .before .before .before .before .before .before .before .before .before .before .before .put-quoted .ensures) (c .before .before .before .before .before .before .before .before .before .before .before .before .put-caption-line .ensures) (c .before .before .before .before .put-text .ensures)
+returns c = search block-by
 
 pub quote-block-spec : {M : Type 1} → statement M
 quote-block-spec =

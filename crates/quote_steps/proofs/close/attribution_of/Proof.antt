@@ -12,35 +12,28 @@ use Rattle.quote_steps.proofs.close.attribution_of.Lts as lts
 use Rattle.quote_lines.proofs.tag.opener_size.Reads as opener-size-reads
 use Rattle.text.proofs.scan.next_bracket.Reads as next-bracket-reads
 
--- src/close.rt:34:9
 next-bracket-requires : tie.Need-next-bracket-requires
 next-bracket-requires c κs = search needs
 
--- src/close.rt:35:9
 opener-size-requires : tie.Need-opener-size-requires
 opener-size-requires c κs = search needs
 
--- src/close.rt:37:9
 returns : tie.Need-returns
-returns c = let a = c .before .before .before .before .args in ((omega arith, omega arith), attribution-missing (a .s .now) (a .tag) _ (omega arith) (c .before .opener-size .ensures) (c .if1 .taken))
+returns c = let a = c .before .before .before .before .args in ((omega arith, omega arith), attribution-missing (a .s .now) (a .tag .0) _ (omega arith) (c .before .opener-size .ensures) (c .if1 .taken))
 
--- src/close.rt:40:15
 add-t7 : tie.Need-add-t7
 add-t7 c = search needs
 
--- src/close.rt:41:13
-add-t8 : tie.Need-add-t8
-add-t8 c = let a = c .before .before .before .before .args in let w = opener-inside (a .s .now) (a .tag) _ (omega arith) (c .before .opener-size .ensures) in omega (arith, w)
+add-t9 : tie.Need-add-t9
+add-t9 c = let a = c .before .before .before .before .args in let w = opener-inside (a .s .now) (a .tag .0) _ (omega arith) (c .before .opener-size .ensures) in omega (arith, w)
 
--- src/close.rt:41:13
-sub-t9 : tie.Need-sub-t9
-sub-t9 c = search needs
+sub-t10 : tie.Need-sub-t10
+sub-t10 c = search needs
 
--- src/close.rt:30:1
 returns-2 : tie.Need-returns-2
-returns-2 c = let a = c .before .before .before .before .args in let w = opener-inside (a .s .now) (a .tag) _ (omega arith) (c .before .opener-size .ensures) in ((omega arith, omega (arith, w)), attribution-there (a .s .now) (a .tag) _ (omega arith) (c .before .opener-size .ensures) (omega arith))
+returns-2 c = let a = c .before .before .before .before .args in let w = opener-inside (a .s .now) (a .tag .0) _ (omega arith) (c .before .opener-size .ensures) in ((omega arith, omega (arith, w)), attribution-there (a .s .now) (a .tag .0) _ (omega arith) (c .before .opener-size .ensures) (omega arith))
 
 pub attribution-of-spec : {M : Type 1} → statement M
 attribution-of-spec =
     tie.close
-    (tie.spec next-bracket-requires opener-size-requires returns add-t7 add-t8 sub-t9 returns-2)
+    (tie.spec next-bracket-requires opener-size-requires returns add-t7 add-t9 sub-t10 returns-2)

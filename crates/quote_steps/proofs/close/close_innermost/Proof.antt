@@ -42,7 +42,7 @@ same-length-4 : tie.Need-same-length-4
 same-length-4 c = search needs
 
 returns : tie.Need-returns
-returns c = let a = c .before .before .before .before .before .before .before .before .before .before .before .before .before .before .before .before .before .before .before .before .before .args in let p = c .before .before .before .before .before .before .before .before .before .before .before .before .before .before .before .before .before .before .before .before .before .pre in let b = c .before .before .before .before .before .before .before .before .before .before .before .before .before .before .start-of .ensures in let q = c .before .before .before .before .before .before .before .before .close-quote .ensures in let h : a .base ≤ a .end = omega (arith, p .0 .1 .0, p .0 .1 .1) in let hb : a .end ≤ length (a .work .now) = omega (arith, p .1 .0 .0 .0) in (omega (arith, b .0 .0, q .0), (closing-keeps caption (a .e) (a .base) (a .end) (a .work .now) (a .numbers .now) (a .to) (a .starts .now) (a .tags .now) (a .«open») (p .0 .0) h hb (p .1 .0 .0 .1 .0) (p .0 .1 .1) (q .1) (b .0 .0) (omega (arith, b .0 .1, p .0 .1 .1)) (search needs) (search needs), closes-last caption (a .e) (a .base) (a .end) (a .work .now) (a .numbers .now) (a .to) (a .starts .now) (a .tags .now) (a .«open») (p .0 .0) h hb (p .1 .0 .0 .1 .0) (p .0 .1 .1) _ _ (b .1) (c .before .before .before .before .before .before .before .before .before .before .before .before .before .tag-of .ensures .1) (q .1)))
+returns c = let a = c .before .before .before .before .before .before .before .before .before .before .before .before .before .before .before .before .before .before .before .before .before .args in let p = c .before .before .before .before .before .before .before .before .before .before .before .before .before .before .before .before .before .before .before .before .before .pre in let b = c .before .before .before .before .before .before .before .before .before .before .before .before .before .before .start-of .ensures in let q = c .before .before .before .before .before .before .before .before .close-quote .ensures in let h : a .base ≤ a .end = omega (arith, p .0 .1 .0, p .0 .1 .1) in let hb : a .end ≤ length (a .work .now) = omega (arith, p .1 .0 .0 .0) in (omega (arith, b .0 .0, q .0), (closing-keeps caption (a .e) (a .base) (a .end) (a .work .now) (a .numbers .now) (a .to .0) (a .starts .now) (a .tags .now) (a .«open») (p .0 .0) h hb (p .1 .0 .0 .1 .0) (p .0 .1 .1) (q .1) (b .0 .0) (omega (arith, b .0 .1, p .0 .1 .1)) (search needs) (search needs), closes-last caption (a .e) (a .base) (a .end) (a .work .now) (a .numbers .now) (a .to .0) (a .starts .now) (a .tags .now) (a .«open») (p .0 .0) h hb (p .1 .0 .0 .1 .0) (p .0 .1 .1) _ _ (b .1) (c .before .before .before .before .before .before .before .before .before .before .before .before .before .tag-of .ensures .1) (q .1)))
 
 pub close-innermost-spec : {M : Type 1} → statement M
 close-innermost-spec =

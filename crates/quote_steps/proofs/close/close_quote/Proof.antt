@@ -29,7 +29,7 @@ same-length-4 : tie.Need-same-length-4
 same-length-4 c = search needs
 
 returns : tie.Need-returns
-returns c = let a = c .before .before .before .before .before .before .before .before .before .before .before .before .before .before .before .before .args in let p = c .before .before .before .before .before .before .before .before .before .before .before .before .before .before .before .before .pre in let B = c .before .before .before .before .before .before .before .build-block .ensures in (omega arith, block-closes-full (a .work .now) _ (a .numbers .now) _ _ _ _ (a .begin) (a .to) (a .end) _ (quoteBlock _) (B .1) (B .0) (p .0 .1 .1 .1) (omega (arith, p .1 .0 .0)) (p .1 .0 .1 .0) (search needs) 18446744073709551615 (c .if1 .taken) (search needs) (omega arith))
+returns c = let a = c .before .before .before .before .before .before .before .before .before .before .before .before .before .before .before .before .args in let p = c .before .before .before .before .before .before .before .before .before .before .before .before .before .before .before .before .pre in let B = c .before .before .before .before .before .before .before .build-block .ensures in (omega arith, block-closes-full (a .work .now) _ (a .numbers .now) _ _ _ _ (a .begin .0) (a .to .0) (a .end) _ (quoteBlock _) (B .1) (B .0) (p .0 .1 .1 .1) (omega (arith, p .1 .0 .0)) (p .1 .0 .1 .0) (search needs) 18446744073709551615 (c .if1 .taken) (search needs) (omega arith))
 
 copy-in-requires : tie.Need-copy-in-requires
 copy-in-requires c κs = search needs
@@ -47,7 +47,7 @@ same-length-8 : tie.Need-same-length-8
 same-length-8 c = search needs
 
 returns-2 : tie.Need-returns-2
-returns-2 c = let a = c .before .before .before .before .before .before .before .before .before .before .before .before .before .before .before .before .before .before .before .before .before .before .before .before .before .args in let p = c .before .before .before .before .before .before .before .before .before .before .before .before .before .before .before .before .before .before .before .before .before .before .before .before .before .pre in let B = c .before .before .before .before .before .before .before .before .before .before .before .before .before .before .before .before .build-block .ensures in (c .before .before .before .before .copy-in .ensures .appends .grows, block-closes (a .work .now) _ (a .numbers .now) _ _ _ _ (a .begin) (a .to) (a .end) _ (quoteBlock _) (B .1) (B .0) (p .0 .1 .1 .1) (omega (arith, p .1 .0 .0)) (p .1 .0 .1 .0) (search needs) (search needs) (c .before .before .before .before .copy-in .ensures))
+returns-2 c = let a = c .before .before .before .before .before .before .before .before .before .before .before .before .before .before .before .before .before .before .before .before .before .before .before .before .before .args in let p = c .before .before .before .before .before .before .before .before .before .before .before .before .before .before .before .before .before .before .before .before .before .before .before .before .before .pre in let B = c .before .before .before .before .before .before .before .before .before .before .before .before .before .before .before .before .build-block .ensures in (c .before .before .before .before .copy-in .ensures .appends .grows, block-closes (a .work .now) _ (a .numbers .now) _ _ _ _ (a .begin .0) (a .to .0) (a .end) _ (quoteBlock _) (B .1) (B .0) (p .0 .1 .1 .1) (omega (arith, p .1 .0 .0)) (p .1 .0 .1 .0) (search needs) (search needs) (c .before .before .before .before .copy-in .ensures))
 
 pub close-quote-spec : {M : Type 1} → statement M
 close-quote-spec =
