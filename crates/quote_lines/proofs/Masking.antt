@@ -1,20 +1,20 @@
 -- Laws of masking a text in place. Assumes nothing.
 use mathlib.Core.Path.{_≡_, refl, sym, ap, _∙_}
-use mathlib.Core.Bool.{Bool, true, false, cond, _&&_, _||_}
+use mathlib.Core.Bool.{Bool, true, false, cond, _||_}
 use mathlib.Core.List.{List, [], _∷_, _++_, append-assoc, append-nil}
 use Prim.Native.Nat.{ℕ, zero, suc, _+_, _-_, _≤_, _<_}
 use native.Mathlib.Nat.{add-zero, sub-zero, zero-sub, suc-sub-suc}
 use native.Mathlib.Numerals.{add-one}
 use native.Mathlib.Omega.{arith}
 use native.Mathlib.Decide.{decLe}
-use lib.Dec.{eqb, leb, ltb}
+use lib.Dec.{ltb}
 use lib.ListN.{length, take, drop, getD, set, length-set, length-drop, drop-of-length-le}
 use lib.Seq.{take-nil, drop-cons, drop-drop, getD-drop, getD-take, length-take-le, take-suc-set, drop-set-lt}
 use borrow.Author.Tests.{lt-ltb, le-ltb, ne-eqb}
-use Rattle.text.specs.Ascii.{inside, is, begins, toBracket}
+use Rattle.text.specs.Ascii.{inside, begins, toBracket}
 use Rattle.quote_lines.specs.Tags.{NextBracket, beginsAny, tagSize}
 use Rattle.quote_lines.proofs.Tagging.{bracket-on, behind-within}
-use Rattle.quote_lines.specs.Masks.{Mask, toCloser, regionOf, region, blanked, shown, masked, code, icode, noparse, visible, Masked, KnownCloser}
+use Rattle.quote_lines.specs.Masks.{Mask, toCloser, region, shown, masked, code, icode, noparse, visible, Masked, KnownCloser}
 
 -- ---- looking for a closer
 

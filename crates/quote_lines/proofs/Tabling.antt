@@ -6,15 +6,15 @@ use native.Mathlib.Omega.{arith}
 use native.Mathlib.Decide.{decLe}
 use native.Mathlib.Numerals.{add-one}
 use mathlib.Core.Bool.{Bool, true, false, cond, _&&_, _||_, true≢false}
-use mathlib.Core.List.{List, [], _∷_, _++_}
+use mathlib.Core.List.{List, [], _∷_}
 use lib.ListN.{length, take, drop, getD, set, length-set, length-drop, drop-of-length-le}
 use lib.Seq.{drop-cons, drop-drop, getD-drop, getD-take, getD-set-same, getD-set-other, take-take, take-set-le}
 use lib.Dec.{eqb, ltb}
-use borrow.Author.Tests.{eqb-true, eq-eqb, ne-eqb}
+use borrow.Author.Tests.{eqb-true, eq-eqb}
 use Rattle.text.specs.Ascii.{is, begins, small, inside, toFirst, toBracket}
 use Rattle.quote_lines.specs.Tags.{beginsAny, tagSize, upToBracket, openers, openerSize, attributionOf}
-use Rattle.quote_lines.specs.Lines.{Tag, bare, tagOf, lineAfter, tags}
-use Rattle.quote_lines.specs.Tables.{wordsAt, WordsAt, TagAt, noTag, TagsAt, Table, Tabled, linesBehind}
+use Rattle.quote_lines.specs.Lines.{Tag, bare, lineAfter, tags}
+use Rattle.quote_lines.specs.Tables.{wordsAt, TagAt, noTag, Table, Tabled, linesBehind}
 
 -- ---- lines
 

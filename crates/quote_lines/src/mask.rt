@@ -14,7 +14,7 @@ ghost use lib.ListN.{length, take, drop};
 ghost use lib.Dec.{ltb};
 ghost use Rattle.text.specs.Ascii.{toBracket};
 ghost use Rattle.quote_lines.specs.Tags.{NextBracket, beginsAny, tagSize};
-ghost use Rattle.quote_lines.specs.Masks.{Mask, toCloser, region, shown, Masked, KnownCloser, visible};
+ghost use Rattle.quote_lines.specs.Masks.{toCloser, region, shown, Masked, KnownCloser, visible};
 
 // Whether the text from a place on begins with one of two words.
 fn begins_either(s: &[u8], at: PostAt, first: &[u8], second: &[u8]) -> bool

@@ -1,6 +1,6 @@
 -- Laws of a whole call. Assumes nothing.
 use mathlib.Core.Path.{_≡_, refl, sym, ap, _∙_}
-use mathlib.Core.Bool.{Bool, true, false, cond}
+use mathlib.Core.Bool.{Bool, true, false}
 use mathlib.Core.List.{List, []}
 use Prim.Native.Nat.{ℕ, _+_, _-_, _*_, _/_, _≤_, _<_}
 use native.Mathlib.Omega.{arith}
@@ -12,7 +12,7 @@ use borrow.Author.Tests.{lt-ltb, le-ltb, ltb-false}
 use Rattle.text.specs.Cells.{Cell, cells, cellsOf, bytes, part}
 use Rattle.text.specs.Writes.{cleared, LaidOut}
 use Rattle.text.specs.declared.lent.Refusal.{Refusal}
-use Rattle.text.specs.declared.lent.Refusal.the-variants.{TooDeep, NoSpace, TooManyLosses, LossBytesShort}
+use Rattle.text.specs.declared.lent.Refusal.the-variants.{NoSpace}
 use Rattle.text.specs.declared.lent.Checked.{Checked}
 use Rattle.text.specs.declared.lent.Checked.the-variants as C
 use Rattle.text.proofs.Clearing.{laid-cleared}

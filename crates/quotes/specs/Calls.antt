@@ -7,7 +7,8 @@
 --   countsOfAnswer r         its values: the text's length, the losses and the loss bytes; 0 each on a refusal
 --   textOf, recordsIn, wordsIn   what the call leaves: text, records and loss bytes, or nothing on refusal
 --   Filled ..                the four slices hold such a text, records and loss bytes, with zeros behind
---   Called ..                what comes back, and what the lent slices then hold
+--   Answers .. wanted r ..   r comes back, as is wanted, and the four slices are filled accordingly
+--   Called ..                what comes back from the call, and what the lent slices then hold
 --   Listed s x ..            in code: the records and loss bytes of the text x, with lines in the original text s, stand at the front of slices
 -- Assumes nothing.
 use mathlib.Core.Path.{_≡_}

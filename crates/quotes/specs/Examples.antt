@@ -1,6 +1,6 @@
 -- Document 01's position of quotes, and the readings of "Need" and "Quotes and lines", by computation. Assumes nothing.
 use mathlib.Core.Path.{_≡_, refl}
-use mathlib.Core.Bool.{Bool, true, false}
+use mathlib.Core.Bool.{true, false}
 use mathlib.Core.List.{List, [], _∷_, _++_}
 use lib.ListN.{replicate, length}
 use Prim.Native.Nat.{ℕ, zero, suc}

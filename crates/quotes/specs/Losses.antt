@@ -8,6 +8,7 @@
 --   recordsBy ts q to next names  the records of quotes with these attributions, where the search for the first begins at tag `next`
 --   namesAt i x           the attributions of the openers of x from place i on
 --   ListsToken ..         the losses of the token at a place have been listed
+--   FewAt i q k to        the next quote's number, the losses and the loss bytes before place i are few enough for 32 bits
 --   ListsLosses ..        the losses of a text with the bytes s have been listed: what does not fit is counted, not written
 -- Assumes nothing.
 use mathlib.Core.Path.{_≡_}

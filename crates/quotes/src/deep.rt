@@ -4,7 +4,6 @@ use quote_lines::tag::closer_size;
 use quote_lines::tag::opener_size;
 use text::PostAt;
 use text::scan::next_bracket;
-ghost use mathlib.Core.Path.{_≡_};
 ghost use Prim.Native.Nat.{_≤_, _<_};
 ghost use lib.ListN.{length};
 ghost use Rattle.quote_lines.specs.Tags.{NextBracket};

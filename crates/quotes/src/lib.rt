@@ -34,7 +34,7 @@ ghost use Rattle.quotes.specs.declared.Quoted.the-variants.{Done, Refuse
 pub mod deep;
 pub mod loss;
 
-// The lengths of the text and of the loss bytes, with the number of losses between; or why there is no text.
+// The length of the text, the number of losses and the length of the loss bytes; or why there is no text.
 pub enum Quoted {
     Done(usize, usize, usize),
     Refused(Refusal),

@@ -7,7 +7,6 @@ use quote_lines::search::line_of;
 use quote_lines::tag::tag_at;
 use text::PostAt;
 use text::scan::next_bracket;
-ghost use mathlib.Core.Path.{_≡_};
 ghost use Prim.Native.Nat.{_≤_, _<_};
 ghost use lib.ListN.{length};
 ghost use Rattle.quote_lines.specs.Tags.{NextBracket};
