@@ -1,18 +1,18 @@
 -- Laws of writing a quote's block. Assumes nothing.
 use mathlib.Core.Path.{_≡_, refl, sym, ap, subst, _∙_}
-use Prim.Native.Nat.{ℕ, zero, suc, _+_, _-_, _≤_, _<_}
+use Prim.Native.Nat.{ℕ, _+_, _≤_, _<_}
 use native.Mathlib.Omega.{arith}
 use native.Mathlib.Decide.{decLe}
 use mathlib.Core.Bool.{Bool, true, false}
-use mathlib.Core.List.{List, [], _∷_, _++_, map, append-assoc, append-nil}
-use lib.ListN.{length, take, drop, length-append}
+use mathlib.Core.List.{List, [], _∷_, _++_, map, append-nil}
+use lib.ListN.{length, take, length-append}
 use lib.Seq.{length-take-le}
 use Rattle.text.specs.Ascii.{ascii, computes as asciiComputes}
 use Rattle.text.specs.Blanks.{computes as blanksCompute}
 use Rattle.text.specs.Cells.{Cell, cells, part, written, feed, cellsFrom, computes as cellsCompute}
 use Rattle.text.specs.Lines.{trimStart, trimEnd, trim, allBlank, lines, followed, joined}
 use Rattle.text.specs.Writes.{Holds, Appends}
-use Rattle.text.proofs.Writing.{appends-then, part-end, cells-le, cells-short, cells-short₂, holds-fits}
+use Rattle.text.proofs.Writing.{appends-then, part-end, cells-le, cells-short, cells-short₂}
 use Rattle.quote_blocks.specs.Quotes.{quotedLine, quotedLines, captionLine, quoteBlock}
 
 -- ---- a line

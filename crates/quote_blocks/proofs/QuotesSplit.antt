@@ -1,7 +1,7 @@
 -- The quote pass splits its text: into what it copies and what it takes out. Assumes nothing.
 use mathlib.Core.Path.{_≡_, refl, sym, ap, _∙_}
 use mathlib.Core.Bool.{Bool, true, false, cond, _&&_, true≢false}
-use mathlib.Core.List.{List, [], _∷_, _++_, append-assoc, append-nil, map}
+use mathlib.Core.List.{List, [], _∷_, _++_, append-assoc, append-nil}
 use Prim.Native.Nat.{ℕ, zero, suc, _-_}
 use lib.ListN.{drop, take-append-drop}
 use native.Mathlib.Omega.{arith}

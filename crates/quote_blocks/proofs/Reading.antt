@@ -1,18 +1,18 @@
 -- Laws of reading a text's tokens, place by place: x is the text and s its bytes. Assumes nothing.
-use mathlib.Core.Path.{_≡_, refl, sym, ap, subst, _∙_}
+use mathlib.Core.Path.{_≡_, refl, sym, ap, _∙_}
 use Prim.Native.Nat.{ℕ, zero, suc, _+_, _-_, _≤_, _<_}
 use native.Mathlib.Omega.{arith}
 use native.Mathlib.Numerals.{add-one}
 use mathlib.Core.Bool.{Bool, true, false, cond, _||_}
-use mathlib.Core.List.{List, [], _∷_, map}
-use lib.ListN.{length, take, drop, getD, length-map, length-drop, drop-of-length-le}
+use mathlib.Core.List.{List, [], _∷_}
+use lib.ListN.{length, take, drop, getD, length-map, drop-of-length-le}
 use lib.Seq.{drop-cons, drop-drop}
 use lib.Dec.{leb, ltb}
 use borrow.Author.Tests.{lt-ltb, le-ltb, leb-true, leb-false}
-use Rattle.text.specs.Ascii.{begins, toBracket}
+use Rattle.text.specs.Ascii.{begins}
 use Rattle.text.specs.Cells.{Cell, bytes, feed}
-use Rattle.quote_lines.specs.Tags.{NextBracket, upToBracket, beginsAny, tagSize, openers, openerSize, closerSize, attributionOf}
-use Rattle.quote_blocks.specs.Quotes.{Token, text, opens, closes, tokenOf, restOf, tokens, tooDeepFrom}
+use Rattle.quote_lines.specs.Tags.{beginsAny, tagSize, openerSize, closerSize, attributionOf}
+use Rattle.quote_blocks.specs.Quotes.{Token, text, opens, closes, tokens, tooDeepFrom}
 
 tokens-skip : (k : ℕ) (x : List Cell) → tokens k x ≡ tokens 0 (drop k x)
 unfolding tokens

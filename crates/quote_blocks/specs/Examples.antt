@@ -1,6 +1,5 @@
 -- A quote's block and the need, by computation. Assumes nothing.
 use mathlib.Core.Path.{_≡_, refl}
-use mathlib.Core.List.{List}
 use Prim.Native.Nat.{ℕ}
 use Prim.Native.String.{String}
 use Rattle.text.specs.Ascii.{ascii, computes as asciiComputes}

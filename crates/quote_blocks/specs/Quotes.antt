@@ -3,7 +3,10 @@
 --   takenQuotes x      what quotes take out: each opener with its attribution, and each closer
 --   attributions x     the attributions of the openers, in their order: those of the converted quotes
 --   tooDeep x          an opener is met while 64 quotes are open
+--   DepthBehind ..     how many quotes are open behind a token; TooDeep: what tooDeep is of every text with given bytes
 --   quoteBlock c x     what a closed quote with the caption c and the content x writes
+--   Quote, State       an open quote; what is open: the innermost content and the open quotes around it
+--   opening, held      the contents around the innermost one, and their number of bytes; total: with the innermost
 --   quotes x           the text that the pass writes
 --   quotesNeed x       document 01's need: the greatest number of bytes of all open contents together after any step
 -- Assumes nothing.

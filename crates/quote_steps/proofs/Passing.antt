@@ -1,7 +1,6 @@
 -- The laws of the pass in work memory. Assumes nothing.
 use mathlib.Core.Path.{_≡_, refl, sym, ap, subst, _∙_}
-use mathlib.Core.Logic.{_⊎_}
-use Prim.Native.Nat.{ℕ, zero, suc, _+_, _-_, _≤_, _<_, max}
+use Prim.Native.Nat.{ℕ, suc, _+_, _-_, _≤_, _<_, max}
 use native.Mathlib.Omega.{arith}
 use native.Mathlib.Decide.{decLe}
 use native.Mathlib.Numerals.{add-one}
@@ -9,9 +8,9 @@ use mathlib.Core.List.{List, [], _∷_, _++_, append-assoc, append-nil}
 use mathlib.Core.Bool.{Bool, true, false, _||_, true≢false}
 use lib.Dec.{leb}
 use borrow.Author.Tests.{leb-false}
-use lib.ListN.{length, take, drop, getD, set, length-append, length-set, length-map}
+use lib.ListN.{length, take, drop, getD, set, length-append, length-map}
 use lib.Seq.{length-take-le, getD-take, take-take, take-at, drop-at, getD-set-same, getD-set-other}
-use Rattle.text.specs.Cells.{Cell, cell, cells, bytes, part, feed}
+use Rattle.text.specs.Cells.{Cell, cells, bytes, part, feed}
 use Rattle.text.specs.Writes.{Holds, Appends, AppendsIn}
 use Rattle.text.proofs.Writing.{holds-fits, cells-le, cells-short, cells-at, part-cons, part-end}
 use Rattle.text.proofs.Areas.{area-length}

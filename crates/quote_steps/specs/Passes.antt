@@ -3,8 +3,11 @@
 --   Lent base end ..      how long the lent slices are
 --   Stood .. qs           where the content of each open quote begins, and where its opener stands in the text
 --   Stands .. s           the area holds what the state s of the machine has
---   Closes ..             the last content of an area has been replaced by another text
---   Takes ..              one token has been taken
+--   Closes ..             the last content of an area has been replaced by another text; ClosesIn: of a pair of slices
+--   ClosesLast, ClosesAll the innermost open quote has been closed; all that are open have
+--   Takes, TakesOne       one token has been taken
+--   Reached, Runs         all tokens have been taken, as far as they fit
+--   Leaves .. need        the area holds the pass's result, where the need does not exceed the room
 -- Assumes nothing.
 use mathlib.Core.Path.{_≡_}
 use Prim.Native.Nat.{ℕ, _+_, _-_, _≤_, _<_, max}

@@ -6,7 +6,6 @@ use mathlib.Core.List.{List, [], _∷_, _++_}
 use lib.ListN.{length, getD}
 use Rattle.quote_blocks.proofs.Blocks.{past-end, caption-none, caption-some, cells-same}
 use Rattle.text.proofs.Writing.{cells-short, cells-short₂, cells-le}
-use Rattle.text.specs.Cells.{cells}
 use Rattle.quote_blocks.proofs.block.put_caption_line.Statement.{statement}
 use Rattle.quote_blocks.proofs.block.put_caption_line.Tie as tie
 use Rattle.quote_blocks.proofs.block.put_caption_line.Reads as reads

@@ -4,7 +4,6 @@ use mathlib.Core.Path.{_≡_, refl, sym, ap, _∙_}
 use Prim.Native.Nat.{ℕ, suc, _+_, _-_, _≤_, _<_}
 use mathlib.Core.List.{List, [], _∷_, _++_}
 use lib.ListN.{length, getD}
-use mathlib.Core.List.{map}
 use Rattle.quote_blocks.proofs.Blocks.{moreLines, more-turn, more-end}
 use Rattle.text.proofs.Writing.{Writing, start, more, done, appends-then}
 use Rattle.text.specs.Cells.{cells, part}
