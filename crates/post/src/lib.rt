@@ -139,7 +139,14 @@ fn list_lost(
 {
     let own = read_lines(post, work, numbers);
     let size = own.size;
-    list_losses(&out[..n], &work[..size], numbers, own.count, records, loss_bytes)
+    list_losses(
+        &out[..n],
+        &work[..size],
+        numbers,
+        own.count,
+        records,
+        loss_bytes,
+    )
 }
 
 // Quotes and lists of the marks text of a post, the n cells at the front of out and origins.

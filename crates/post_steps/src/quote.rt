@@ -26,15 +26,7 @@ pub fn quote_text(
 {
     let m = out.len();
     let end = m + m;
-    copy(
-        out,
-        origins,
-        PostAt(0),
-        PostAt(n),
-        work,
-        numbers,
-        TextAt(0),
-    );
+    copy(out, origins, PostAt(0), PostAt(n), work, numbers, TextAt(0));
     let z = quote_pass(work, numbers, n, m, end, out, origins);
     let r = z.0;
     if end < r {
