@@ -170,7 +170,7 @@ by-size C.Fine else n a w k f e = f e
 
 marked-size : (x : List Cell) (m j b n a w : ℕ) → marked x m j b ≡ Done n a w → n ≡ length (lists (Quotes.quotes caption x))
 unfolding marked
-marked-size x m j b n a w = by-size _ _ n a w _ (quoting-size x m _ _ n a w)
+marked-size x m j b n a w = by-size (limited (Quotes.tooDeep x) (ltb (j / 5) (length (quoteLosses x))) (ltb b (length (lossBytes x)))) (quoting x m (length (quoteLosses x)) (length (lossBytes x))) n a w (length (lists (Quotes.quotes caption x))) (quoting-size x m (length (quoteLosses x)) (length (lossBytes x)) n a w)
 
 converted-size : (post : List ℕ) (m j b n a w : ℕ) → converted post m j b ≡ Done n a w → n ≡ length (finished post)
 unfolding converted finished quotedText
@@ -182,7 +182,7 @@ converted-size post m j b n a w = by (ltb m (length (marksText post)))
 
 answered-size : (post : List ℕ) (lent : Lent) (j b n a w : ℕ) → answered post lent j b ≡ Done n a w → n ≡ length (finished post)
 unfolding answered
-answered-size post lent j b n a w = by-size _ _ n a w _ (converted-size post (lent .out) j b n a w)
+answered-size post lent j b n a w = by-size (checked post lent) (converted post (lent .out) j b) n a w (length (finished post)) (converted-size post (lent .out) j b n a w)
 
 -- ---- demand 3
 
