@@ -29,11 +29,11 @@ use Rattle.list_blocks.specs.Tags as ListTags
 use Rattle.list_blocks.specs.Lists.{lists, listsNeed}
 use Rattle.list_steps.proofs.Needs.{lists-fits}
 use Rattle.post_steps.specs.Fills.{Stands, Fills, Lays}
-use Rattle.post.specs.Post.{marksText, quotedText, finished, Consumed}
+use Rattle.chain.specs.Post.{marksText, quotedText, finished, Consumed}
 use Rattle.post.specs.Calls.{listing, quoting, marked, converted, answered, answerBy, ifDone, Ends, Copied}
 use Rattle.post.specs.declared.Posted.{Posted}
 use Rattle.post.specs.declared.Posted.the-variants.{Done, Refused}
-use Rattle.post.proofs.Chain.{finished-copied}
+use Rattle.chain.proofs.Chain.{finished-copied}
 
 -- ---- what a call leaves
 

@@ -32,7 +32,7 @@ use Rattle.quotes.specs.Losses.{quoteLosses, lossBytes, lossRecords}
 use Rattle.quotes.specs.Calls.{limited, Filled}
 use Rattle.list_blocks.specs.Tags as ListTags
 use Rattle.list_blocks.specs.Lists.{lists, listsNeed}
-use Rattle.post.specs.Post.{marksText, finished, Consumed}
+use Rattle.chain.specs.Post.{marksText, finished, Consumed}
 use Rattle.post.specs.declared.Posted.{Posted}
 use Rattle.post.specs.declared.Posted.the-variants.{Done, Refused}
 

@@ -31,7 +31,7 @@ ghost use Rattle.quote_blocks.specs.Quotes.{TooDeep, tooDeep, quotes};
 ghost use Rattle.quotes.specs.Losses.{ListsLosses, lossBytes, lossRecords};
 ghost use Rattle.quotes.specs.Calls.{Filled};
 ghost use Rattle.list_blocks.specs.Lists.{lists};
-ghost use Rattle.post.specs.Post.{marksText, finished};
+ghost use Rattle.chain.specs.Post.{marksText, finished};
 ghost use Rattle.post.specs.Calls.{listing, quoting, marked, converted, Ends, Called, Copied};
 ghost use Rattle.post.specs.declared.Posted.the-variants.{Refused};
 

@@ -5,7 +5,7 @@ use Prim.Native.Nat.{ℕ, suc, _+_, _-_, _≤_, _<_}
 use mathlib.Core.List.{List, [], _∷_, _++_}
 use lib.ListN.{length, getD}
 use Rattle.text.specs.Cells.{cells}
-use Rattle.post.specs.Post.{marksText}
+use Rattle.chain.specs.Post.{marksText}
 use Rattle.post.proofs.Calling.{ends-refused, ends-as, ends-finished, converted-full, converted-done, marks-front}
 use Rattle.post.proofs.convert.Statement.{statement}
 use Rattle.post.proofs.convert.Tie as tie

@@ -8,7 +8,7 @@ use Rattle.mark_tags.proofs.SplitMarks.{marks-split}
 use Rattle.attribution_parts.specs.Attribution.{caption}
 use Rattle.quote_blocks.proofs.QuotesSplit.{quotes-splits}
 use Rattle.list_steps.proofs.ListsSplit.{lists-splits}
-use Rattle.post.specs.Post.{marksText, quotedText, finished, takenOut, Consumed}
+use Rattle.chain.specs.Post.{marksText, quotedText, finished, takenOut, Consumed}
 
 pub finished-sound : (post : List ℕ) → Sound post (takenOut post) (finished post)
 unfolding marksText quotedText finished takenOut
