@@ -1,17 +1,21 @@
 // The operations for C and Rust: each returns document 01's number (0: done) and sets `counts` to the length, the number of marks or of
 // losses, and the loss bytes (0 where there is no such thing, and on a refusal).
 use day::Dated;
+use lists::Listed;
+use marks::Marked;
 use text::lent::number_of;
 ghost use mathlib.Core.Path.{_≡_};
 ghost use mathlib.Core.List.{[], _∷_};
+ghost use Prim.Native.Nat.{_≤_};
 ghost use lib.ListN.{length};
 ghost use Rattle.day.specs.Day.{numberOfAnswer, answer, output};
-ghost use Rattle.carve.specs.Counts.{dayCounts};
+ghost use Rattle.carve.specs.Counts.{dayCounts, ListsReport, MarksReport};
 
-fn set_counts(counts: &mut [u32; 3], len: u32, marks: u32, loss_bytes: u32)
-    ensures { λ _. ⌜ now (counts .exit) ≡ len ∷ marks ∷ «loss_bytes» ∷ [] ⌝ }
+fn set_counts(counts: &mut [u32; 3], len: usize, number: usize, loss_bytes: usize)
+    requires { ⌜ (len ≤ 4294967295) × ((number ≤ 4294967295) × («loss_bytes» ≤ 4294967295)) ⌝ }
+    ensures { λ _. ⌜ now (counts .exit) ≡ len ∷ number ∷ «loss_bytes» ∷ [] ⌝ }
 {
-    *counts = [len, marks, loss_bytes];
+    *counts = [len as u32, number as u32, loss_bytes as u32];
 }
 
 // The day of a number of seconds since 1970.
@@ -26,6 +30,57 @@ pub extern "C" fn carve_day(text: &[u8], out: &mut [u8], counts: &mut [u32; 3]) 
             0
         }
         Dated::Refused(r) => {
+            set_counts(counts, 0, 0, 0);
+            number_of(r)
+        }
+    }
+}
+
+// Lists of a text.
+#[no_mangle]
+pub extern "C" fn carve_lists(
+    text: &[u8],
+    out: &mut [u8],
+    origins: &mut [u32],
+    work: &mut [u8],
+    numbers: &mut [u32],
+    counts: &mut [u32; 3],
+) -> u32
+    ensures { λ r. ⌜ ListsReport (now (text .entry)) (length (now (out .entry))) (length (now (origins .entry))) (length (now (work .entry))) (length (now (numbers .entry))) r (now (out .exit)) (now (origins .exit)) (now (counts .exit)) ⌝ }
+{
+    let listed = lists::convert_lists(text, out, origins, work, numbers);
+    match listed {
+        Listed::Done(size) => {
+            set_counts(counts, size, 0, 0);
+            0
+        }
+        Listed::Refused(r) => {
+            set_counts(counts, 0, 0, 0);
+            number_of(r)
+        }
+    }
+}
+
+// Marks of a text.
+#[no_mangle]
+pub extern "C" fn carve_marks(
+    text: &[u8],
+    out: &mut [u8],
+    origins: &mut [u32],
+    spans: &mut [u32],
+    work: &mut [u8],
+    numbers: &mut [u32],
+    counts: &mut [u32; 3],
+) -> u32
+    ensures { λ r. ⌜ MarksReport (now (text .entry)) (length (now (out .entry))) (length (now (origins .entry))) (length (now (spans .entry))) (length (now (work .entry))) (length (now (numbers .entry))) r (now (out .exit)) (now (origins .exit)) (now (spans .exit)) (now (counts .exit)) ⌝ }
+{
+    let marked = marks::convert_marks(text, out, origins, spans, work, numbers);
+    match marked {
+        Marked::Done(size, count) => {
+            set_counts(counts, size, count, 0);
+            0
+        }
+        Marked::Refused(r) => {
             set_counts(counts, 0, 0, 0);
             number_of(r)
         }
