@@ -22,6 +22,9 @@ use Rattle.lists.specs.Calls as Lists
 use Rattle.marks.specs.declared.Marked.{Marked}
 use Rattle.marks.specs.declared.Marked.the-variants as M
 use Rattle.marks.specs.Calls as Marks
+use Rattle.attribution.specs.Calls as Attribution
+use Rattle.quotes.specs.Calls as Quotes
+use Rattle.post.specs.Calls as Post
 
 abbrev pub dayCounts : Dated → List ℕ
 dayCounts Done = 10 ∷ 0 ∷ 0 ∷ []
@@ -55,3 +58,15 @@ ListsReport text m k w n r out plain cs = Reports listsNumber listsCounts (λ a.
 
 abbrev pub MarksReport : (text : List ℕ) (m k s w n : ℕ) (r : ℕ) (out plain spans cs : List ℕ) → Type 0
 MarksReport text m k s w n r out plain spans cs = Reports marksNumber marksCounts (λ a. Marks.Called text m k s w n a out plain spans) r cs
+
+abbrev pub AttributionReport : (text : List ℕ) (m k j b w n : ℕ) (r : ℕ) (out plain records words cs : List ℕ) → Type 0
+AttributionReport text m k j b w n r out plain records words cs =
+    Reports Attribution.numberOfAnswer Attribution.countsOfAnswer (λ a. Attribution.Called text m k j b w n a out plain records words) r cs
+
+abbrev pub QuotesReport : (text : List ℕ) (m k j b w n : ℕ) (r : ℕ) (out plain records words cs : List ℕ) → Type 0
+QuotesReport text m k j b w n r out plain records words cs =
+    Reports Quotes.numberOfAnswer Quotes.countsOfAnswer (λ a. Quotes.Called text m k j b w n a out plain records words) r cs
+
+abbrev pub PostReport : (text : List ℕ) (m k j b w n : ℕ) (r : ℕ) (out plain records words cs : List ℕ) → Type 0
+PostReport text m k j b w n r out plain records words cs =
+    Reports Post.numberOfAnswer Post.countsOfAnswer (λ a. Post.Called text m k j b w n a out plain records words × Post.Copied text a out plain) r cs
