@@ -21,7 +21,9 @@ enum-known-attributed : tie.Need-enum-known-attributed
 enum-known-attributed c = search needs
 
 set-counts-requires : tie.Need-set-counts-requires
-set-counts-requires c κs = attribution-small _ _ _ _ _ _ _ (sym (c .before .before .before .before .before .before .before .before .before .before .before .before .before .before .before .before .format-attribution .ensures .answer) ∙ c .before .before .attributed .given .1)
+set-counts-requires c κs =
+    let s = attribution-small _ _ _ _ _ _ _ (sym (c .before .before .before .before .before .before .before .before .before .before .before .before .before .before .before .before .format-attribution .ensures .answer) ∙ c .before .before .attributed .given .1) in
+    (s .0, (omega (arith, s .1 .0, s .1 .1), omega (arith, s .1 .0, s .1 .1)))
 
 enum-known-attributed-2 : tie.Need-enum-known-attributed-2
 enum-known-attributed-2 c = search needs

@@ -21,7 +21,9 @@ enum-known-posted : tie.Need-enum-known-posted
 enum-known-posted c = search needs
 
 set-counts-requires : tie.Need-set-counts-requires
-set-counts-requires c κs = post-small _ _ _ _ _ _ _ (sym (c .before .before .before .before .before .before .before .before .before .before .before .before .before .before .before .before .bbcode-to-carve .ensures .0 .answer) ∙ c .before .before .posted .given .1)
+set-counts-requires c κs =
+    let s = post-small _ _ _ _ _ _ _ (sym (c .before .before .before .before .before .before .before .before .before .before .before .before .before .before .before .before .bbcode-to-carve .ensures .0 .answer) ∙ c .before .before .posted .given .1) in
+    (s .0, (omega (arith, s .1 .0, s .1 .1), omega (arith, s .1 .0, s .1 .1)))
 
 enum-known-posted-2 : tie.Need-enum-known-posted-2
 enum-known-posted-2 c = search needs

@@ -21,7 +21,9 @@ enum-known-quoted : tie.Need-enum-known-quoted
 enum-known-quoted c = search needs
 
 set-counts-requires : tie.Need-set-counts-requires
-set-counts-requires c κs = quotes-small _ _ _ _ _ _ _ (sym (c .before .before .before .before .before .before .before .before .before .before .before .before .before .before .before .before .convert-quotes .ensures .answer) ∙ c .before .before .quoted .given .1)
+set-counts-requires c κs =
+    let s = quotes-small _ _ _ _ _ _ _ (sym (c .before .before .before .before .before .before .before .before .before .before .before .before .before .before .before .before .convert-quotes .ensures .answer) ∙ c .before .before .quoted .given .1) in
+    (s .0, (omega (arith, s .1 .0, s .1 .1), omega (arith, s .1 .0, s .1 .1)))
 
 enum-known-quoted-2 : tie.Need-enum-known-quoted-2
 enum-known-quoted-2 c = search needs
