@@ -1,29 +1,27 @@
 -- What an operation answers can be counted in 32 bits. Assumes nothing.
-use mathlib.Core.Path.{_≡_, refl, sym, ap, _∙_}
+use mathlib.Core.Path.{_≡_, refl}
 use mathlib.Core.Bool.{Bool, true, false, cond}
-use mathlib.Core.List.{List, []}
+use mathlib.Core.List.{List}
 use Prim.Native.Nat.{ℕ, suc, _+_, _*_, _/_, _≤_}
 use native.Mathlib.Omega.{arith}
 use lib.ListN.{length}
 use lib.Dec.{ltb}
 use borrow.Author.Tests.{ltb-false}
 use Rattle.text.specs.Cells.{Cell, cellsOf}
-use Rattle.text.specs.Lent.{textMost, outMost, checked}
+use Rattle.text.specs.Lent.{checked}
 use Rattle.text.specs.declared.lent.Refusal.{Refusal}
 use Rattle.text.specs.declared.lent.Lent.{Lent}
 use Rattle.text.specs.declared.lent.Checked.{Checked}
 use Rattle.text.specs.declared.lent.Checked.the-variants as C
-use Rattle.text.proofs.Sizes.{Enough, enough}
+use Rattle.text.proofs.Sizes.{enough}
 use Rattle.text.proofs.Copying.{length-cellsOf}
 use Rattle.list_blocks.specs.Tags.{tooDeep}
 use Rattle.list_blocks.specs.Lists.{lists, listsNeed}
 use Rattle.list_steps.proofs.Needs.{lists-fits}
-use Rattle.lists.specs.declared.Listed.{Listed}
 use Rattle.lists.specs.declared.Listed.the-variants as L
 use Rattle.lists.specs.Calls as Lists
 use Rattle.attribution_parts.specs.Attribution.{caption, losses}
 use Rattle.attribution_losses.specs.Lists.{lossWords}
-use Rattle.attribution.specs.declared.Attributed.{Attributed}
 use Rattle.attribution.specs.declared.Attributed.the-variants as A
 use Rattle.attribution.specs.Calls as Attribution
 use Rattle.quote_blocks.specs.Quotes as Q
@@ -40,7 +38,6 @@ use Rattle.carve.proofs.Losing.{losses-small, quote-losses-small}
 use Rattle.mark_tags.specs.Marks.{marks, merge, no-kinds, items, start}
 use Rattle.mark_writing.proofs.MarkWriting.{spans-few}
 use Rattle.marks.proofs.Counting.{marks-third}
-use Rattle.marks.specs.declared.Marked.{Marked}
 use Rattle.marks.specs.declared.Marked.the-variants as M
 use Rattle.marks.specs.Calls as Marks
 

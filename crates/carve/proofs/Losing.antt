@@ -1,6 +1,6 @@
 -- The losses of a text are no more than its bytes, and their fields no longer than two times its bytes. Assumes nothing.
 --   weight p    the most that a part adds to the loss bytes
-use mathlib.Core.Path.{_≡_, refl, sym, ap, _∙_}
+use mathlib.Core.Path.{_≡_, refl}
 use mathlib.Core.Bool.{Bool, true, false, cond, _||_, _&&_}
 use mathlib.Core.List.{List, [], _∷_, _++_}
 use Prim.Native.Nat.{ℕ, zero, suc, _+_, _-_, _*_, _≤_}
@@ -9,12 +9,12 @@ use lib.ListN.{length, take, drop, getD, length-append, length-map}
 use lib.Dec.{eqb}
 use Rattle.text.specs.Ascii.{ascii, isEmpty, toFirst}
 use Rattle.attribution_parts.specs.Parts.{Part, field, text, isSpace, inQuotes, value, valueSize, keySize, readAt, partAt, sizeAt, partSize, here, more, parts}
-use Rattle.attribution_parts.specs.Attribution.{Loss, lossOf, cutIf, cutLast, runWords, inRun, textsOf, isUsed, isLeading, unnamed, lossAt, lossesFrom, passedOver, lossesOf, losses, leading, leadingId, suffix, fieldOf, partNo, valueOf}
+use Rattle.attribution_parts.specs.Attribution.{Loss, lossOf, cutIf, cutLast, runWords, textsOf, isUsed, unnamed, lossAt, lossesFrom, passedOver, lossesOf, losses, leading, leadingId, suffix, fieldOf}
 use Rattle.attribution_parts.specs.declared.Kind.the-variants.{Name, PostId, Id}
 use Rattle.attribution_losses.specs.Lists.{lossWords}
 use Rattle.text.specs.Cells.{Cell, bytes}
 use Rattle.quote_lines.specs.Tags.{openerSize, closerSize, attributionOf}
-use Rattle.quote_blocks.specs.Quotes.{Token, opens, closes, tokenOf, restOf, tokens, attributionsIn, attributions}
+use Rattle.quote_blocks.specs.Quotes.{Token, tokenOf, restOf, tokens, attributionsIn, attributions}
 use Rattle.quotes.specs.Losses.{lossesIn, quoteLosses, lossBytes}
 
 abbrev weight : Part → ℕ
