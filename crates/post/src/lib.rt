@@ -92,7 +92,7 @@ fn write_lists(
     let count = losses.losses;
     let bytes = losses.bytes;
     clear_behind(losses, records, loss_bytes);
-    Posted::Done(0, count, bytes)
+    Posted::Done(r, count, bytes)
 }
 
 // Quotes of the n cells at the front of out and origins, which are within quotes' limits, then lists; the losses are listed.
