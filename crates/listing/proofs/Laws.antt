@@ -1,48 +1,158 @@
 -- Laws of the listing. Assumes nothing.
 use mathlib.Core.Path.{_≡_, refl, sym, ap, _∙_}
 use mathlib.Core.Bool.{Bool, true, false, cond}
-use Prim.Native.Nat.{ℕ, suc, _+_, _*_, _≤_, _<_}
+use Prim.Native.Nat.{ℕ, suc, _+_, _-_, _/_, _≤_, _<_, min}
 use native.Mathlib.Numerals.{add-one}
 use native.Mathlib.Omega.{arith}
-use mathlib.Core.List.{List, [], _∷_, _++_, append-assoc, append-nil}
-use lib.ListN.{length, take, drop, getD, set, length-set, drop-of-length-le}
-use lib.Seq.{drop-cons, take-suc-set, append-snoc}
+use mathlib.Core.List.{List, [], _∷_, _++_, map, append-assoc, append-nil}
+use lib.ListN.{length, take, drop, getD, drop-of-length-le, length-drop}
+use lib.Seq.{drop-cons, take-all, take-nil}
+use native.Mathlib.Decide.{decLe}
 use lib.Dec.{eqb}
+use borrow.Author.Tests.{eq-eqb}
 use Rattle.text.specs.Ascii.{ascii, is}
-use Rattle.listing.specs.Listing.{escapedByte, escaped, copied, Puts}
+use Rattle.text.specs.Cells.{Cell, cells, sign}
+use Rattle.text.specs.Decimal.{decimal}
+use Rattle.text.specs.Writes.{Appends}
+use Rattle.text.proofs.Writing.{appends-then}
+use Rattle.listing.specs.Listing.{escapedByte, escaped, copied, line, field, loss, lossLines, sizes, counts, listing, Adds}
 
--- ---- bytes put one behind the other
+-- ---- bytes appended one behind the other
 
-pub put-one : (v : List ℕ) (at b : ℕ) → at < length v → take (at + 1) (set v at b) ≡ take at v ++ (b ∷ [])
-put-one v at b h = rw (add-one, take-suc-set v at b h)
+pub signs-append : (s t : List ℕ) → map sign (s ++ t) ≡ map sign s ++ map sign t
+signs-append [] t = refl
+signs-append (b ∷ s) t = ap (λ (l : List Cell). sign b ∷ l) (signs-append s t)
 
-pub put-two : (v : List ℕ) (at a b : ℕ) → at + 2 ≤ length v → take (at + 2) (set (set v at a) (at + 1) b) ≡ take at v ++ (a ∷ b ∷ [])
-put-two v at a b h =
-    let two : at + 2 ≡ (at + 1) + 1 = omega arith in
-    let l : at + 1 < length (set v at a) = simp length-set (omega arith) in
-    rw (two, put-one (set v at a) (at + 1) b l, put-one v at a (omega arith)) (append-snoc (take at v) a (b ∷ []))
+pub adds-then : (s t : List ℕ) {v v₁ v₂ : List Cell} {at at₁ at₂ : ℕ} → Appends v at v₁ at₁ (map sign s) → Appends v₁ at₁ v₂ at₂ (map sign t) → Appends v at v₂ at₂ (map sign (s ++ t))
+adds-then s t p q = rw (signs-append s t) (appends-then p q)
 
--- ---- a text, escaped
+pub adds-line : (k s : List ℕ) {v v₁ v₂ v₃ : List Cell} {at at₁ at₂ at₃ : ℕ}
+    → Appends v at v₁ at₁ (map sign k) → Appends v₁ at₁ v₂ at₂ (map sign s) → Appends v₂ at₂ v₃ at₃ (sign 10 ∷ []) → Appends v at v₃ at₃ (map sign (line k s))
+unfolding line
+adds-line k s p q r = adds-then (k ++ s) (10 ∷ []) (adds-then k s p q) r
 
-at-most : (t : Bool) (x y : List ℕ) → length x ≤ 2 → length y ≤ 2 → length (cond t x y) ≤ 2
-at-most true x y h k = h
-at-most false x y h k = k
+-- ---- one byte, escaped
 
-pub byte-short : (b : ℕ) → length (escapedByte b) ≤ 2
+pub adds-feed : (b : ℕ) {v v₁ v₂ : List Cell} {at at₁ at₂ : ℕ} → b ≡ 10 → Appends v at v₁ at₁ (sign 92 ∷ []) → Appends v₁ at₁ v₂ at₂ (sign 110 ∷ []) → Appends v at v₂ at₂ (map sign (escapedByte b))
 unfolding escapedByte
-byte-short b = at-most (is "\n" b) (ascii "\\n") _ (omega arith) (at-most (is "\\" b) (ascii "\\\\") (b ∷ []) (omega arith) (omega arith))
+adds-feed b e p q = rw (eq-eqb b 10 e) (appends-then p q)
 
-escaped-cons : (b : ℕ) (s : List ℕ) → escaped (b ∷ s) ≡ escapedByte b ++ escaped s
+pub adds-backslash : (b : ℕ) {v v₁ v₂ : List Cell} {at at₁ at₂ : ℕ} → eqb b 10 ≡ false → b ≡ 92 → Appends v at v₁ at₁ (sign 92 ∷ []) → Appends v₁ at₁ v₂ at₂ (sign 92 ∷ []) → Appends v at v₂ at₂ (map sign (escapedByte b))
+unfolding escapedByte
+adds-backslash b f e p q = rw (f, eq-eqb b 92 e) (appends-then p q)
+
+pub adds-other : (b : ℕ) {v v₁ : List Cell} {at at₁ : ℕ} → eqb b 10 ≡ false → eqb b 92 ≡ false → Appends v at v₁ at₁ (sign b ∷ []) → Appends v at v₁ at₁ (map sign (escapedByte b))
+unfolding escapedByte
+adds-other b f e p = rw (f, e) p
+
+-- ---- a text, as it is and escaped
+
+pub plain-turn : (s : List ℕ) (i : ℕ) → i < length s → map sign (drop i s) ≡ (sign (getD s i 0) ∷ []) ++ map sign (drop (i + 1) s)
+plain-turn s i h = rw (drop-cons s i 0 h, add-one)
+
+pub plain-end : (s : List ℕ) (i : ℕ) → length s ≤ i → map sign (drop i s) ≡ []
+plain-end s i h = rw (drop-of-length-le s {i = i} h)
+
+pub escaped-turn : (s : List ℕ) (i : ℕ) → i < length s → map sign (escaped (drop i s)) ≡ map sign (escapedByte (getD s i 0)) ++ map sign (escaped (drop (i + 1) s))
 unfolding escaped
-escaped-cons b s = refl
+escaped-turn s i h = rw (drop-cons s i 0 h, add-one) (signs-append (escapedByte (getD s i 0)) (escaped (drop (suc i) s)))
 
-pub escaped-turn : (s v v' : List ℕ) (i at at' : ℕ) → i < length s → Puts (escapedByte (getD s i 0)) v at v' at'
-    → take at v ++ escaped (drop i s) ≡ take at' v' ++ escaped (drop (i + 1) s)
-escaped-turn s v v' i at at' h p = rw (drop-cons s i 0 h, escaped-cons, p .bytes, add-one, append-assoc)
-
-pub escaped-end : (s v : List ℕ) (i at : ℕ) → length s ≤ i → take at v ≡ take at v ++ escaped (drop i s)
+pub escaped-end : (s : List ℕ) (i : ℕ) → length s ≤ i → map sign (escaped (drop i s)) ≡ []
 unfolding escaped
-escaped-end s v i at h = rw (drop-of-length-le s {i = i} h, append-nil)
+escaped-end s i h = rw (drop-of-length-le s {i = i} h)
+
+-- ---- lines one behind the other
+
+adds-three : (a b c : List ℕ) {v v₁ v₂ v₃ : List Cell} {at at₁ at₂ at₃ : ℕ}
+    → Appends v at v₁ at₁ (map sign a) → Appends v₁ at₁ v₂ at₂ (map sign b) → Appends v₂ at₂ v₃ at₃ (map sign c) → Appends v at v₃ at₃ (map sign (a ++ b ++ c))
+adds-three a b c p q r = adds-then (a ++ b) c (adds-then a b p q) r
+
+pub adds-loss : (quote at unnamed : ℕ) (name : List ℕ) {v v₁ v₂ v₃ v₄ : List Cell} {a a₁ a₂ a₃ a₄ : ℕ}
+    → Appends v a v₁ a₁ (map sign (line (ascii "quote=") (decimal quote))) → Appends v₁ a₁ v₂ a₂ (map sign (line (ascii "line=") (decimal at)))
+    → Appends v₂ a₂ v₃ a₃ (map sign (line (ascii "unnamed=") (decimal unnamed))) → Appends v₃ a₃ v₄ a₄ (map sign (line (ascii "field=") (escaped name)))
+    → Appends v a v₄ a₄ (map sign (loss quote at unnamed name))
+unfolding loss
+adds-loss quote at unnamed name p q r s =
+    let a : List ℕ = line (ascii "quote=") (decimal quote) in
+    let b : List ℕ = line (ascii "line=") (decimal at) in
+    let c : List ℕ = line (ascii "unnamed=") (decimal unnamed) in
+    adds-then (a ++ b ++ c) (line (ascii "field=") (escaped name)) (adds-three a b c p q r) s
+
+pub adds-sizes : (size origin : ℕ) {v v₁ v₂ v₃ : List Cell} {a a₁ a₂ a₃ : ℕ}
+    → Appends v a v₁ a₁ (map sign (line (ascii "length=") (decimal size))) → Appends v₁ a₁ v₂ a₂ (map sign (line (ascii "copied=") (decimal origin)))
+    → Appends v₂ a₂ v₃ a₃ (map sign (line (ascii "written=") (decimal (size - origin)))) → Appends v a v₃ a₃ (map sign (sizes size origin))
+unfolding sizes
+adds-sizes size origin p q r = adds-three (line (ascii "length=") (decimal size)) (line (ascii "copied=") (decimal origin)) (line (ascii "written=") (decimal (size - origin))) p q r
+
+pub adds-counts : (size origin losses : ℕ) {v v₁ v₂ v₃ : List Cell} {a a₁ a₂ a₃ : ℕ}
+    → Appends v a v₁ a₁ (map sign (line (ascii "result=") (decimal 0))) → Appends v₁ a₁ v₂ a₂ (map sign (sizes size origin))
+    → Appends v₂ a₂ v₃ a₃ (map sign (line (ascii "losses=") (decimal losses))) → Appends v a v₃ a₃ (map sign (counts size origin losses))
+unfolding counts
+adds-counts size origin losses p q r = adds-three (line (ascii "result=") (decimal 0)) (sizes size origin) (line (ascii "losses=") (decimal losses)) p q r
+
+pub adds-listing : (text os rs ws : List ℕ) (n : ℕ) {v v₁ v₂ v₃ : List Cell} {a a₁ a₂ a₃ : ℕ} → n ≡ copied os
+    → Appends v a v₁ a₁ (map sign (counts (length text) n (length rs / 5))) → Appends v₁ a₁ v₂ a₂ (map sign (lossLines ws rs))
+    → Appends v₂ a₂ v₃ a₃ (map sign (line (ascii "text=") (escaped text))) → Appends v a v₃ a₃ (map sign (listing text os rs ws))
+unfolding listing
+adds-listing text os rs ws n e p q r =
+    adds-three (counts (length text) (copied os) (length rs / 5)) (lossLines ws rs) (line (ascii "text=") (escaped text)) (rw e at p) q r
+
+-- ---- the losses
+
+-- the part of ws from one place up to another, neither behind its end
+pub field-part : (start size a e : ℕ) (ws : List ℕ) → a ≡ min start (length ws) → e ≡ min (start + size) (length ws) → take (e - a) (drop a ws) ≡ field start size ws
+unfolding field
+field-part start size a e ws p q =
+    elim (decLe (start + size) (length ws)) [
+      | yes h ↦
+          let d : e - a ≡ size = omega arith in
+          let f : a ≡ start = omega arith in
+          rw (d, f)
+      | no h ↦ elim (decLe start (length ws)) [
+        | yes k ↦
+            let f : a ≡ start = omega arith in
+            let l : length (drop start ws) ≡ length ws - start = length-drop start ws in
+            let all : take (e - start) (drop start ws) ≡ drop start ws = take-all (e - start) (drop start ws) (omega arith) in
+            let whole : take size (drop start ws) ≡ drop start ws = take-all size (drop start ws) (omega arith) in
+            rw (f, all, whole)
+        | no k ↦
+            let none : drop a ws ≡ [] = drop-of-length-le ws {i = a} (omega arith) in
+            let behind : drop start ws ≡ [] = drop-of-length-le ws {i = start} (omega arith) in
+            rw (none, behind) (take-nil (e - a) ∙ sym (take-nil size))
+      ]
+    ]
+
+pub adds-field : (start size a e : ℕ) (ws : List ℕ) {v v₁ : List Cell} {at at₁ : ℕ} → a ≡ min start (length ws) → e ≡ min (start + size) (length ws)
+    → Appends v at v₁ at₁ (map sign (line (ascii "field=") (escaped (take (e - a) (drop a ws))))) → Appends v at v₁ at₁ (map sign (line (ascii "field=") (escaped (field start size ws))))
+adds-field start size a e ws p q r = rw (field-part start size a e ws p q) at r
+
+next : (rs : List ℕ) (i k : ℕ) → i + k < length rs → drop (i + k) rs ≡ getD rs (i + k) 0 ∷ drop (i + suc k) rs
+next rs i k h = let e : i + suc k ≡ suc (i + k) = omega arith in rw e (drop-cons rs (i + k) 0 h)
+
+five : (rs : List ℕ) (i : ℕ) → i + 5 ≤ length rs
+    → drop i rs ≡ getD rs i 0 ∷ getD rs (i + 1) 0 ∷ getD rs (i + 2) 0 ∷ getD rs (i + 3) 0 ∷ getD rs (i + 4) 0 ∷ drop (i + 5) rs
+five rs i h =
+    let first : drop i rs ≡ getD rs i 0 ∷ drop (i + 1) rs = rw add-one (drop-cons rs i 0 (omega arith)) in
+    rw (first, next rs i 1 (omega arith), next rs i 2 (omega arith), next rs i 3 (omega arith), next rs i 4 (omega arith))
+
+pub losses-turn : (ws rs : List ℕ) (i : ℕ) → i + 5 ≤ length rs
+    → map sign (lossLines ws (drop i rs))
+    ≡ map sign (loss (getD rs i 0) (getD rs (i + 1) 0) (getD rs (i + 2) 0) (field (getD rs (i + 3) 0) (getD rs (i + 4) 0) ws)) ++ map sign (lossLines ws (drop (i + 5) rs))
+unfolding lossLines
+losses-turn ws rs i h =
+    rw (five rs i h) (signs-append (loss (getD rs i 0) (getD rs (i + 1) 0) (getD rs (i + 2) 0) (field (getD rs (i + 3) 0) (getD rs (i + 4) 0) ws)) (lossLines ws (drop (i + 5) rs)))
+
+few : (ws rs : List ℕ) → length rs < 5 → lossLines ws rs ≡ []
+unfolding lossLines
+few ws [] h = refl
+few ws (a ∷ []) h = refl
+few ws (a ∷ b ∷ []) h = refl
+few ws (a ∷ b ∷ c ∷ []) h = refl
+few ws (a ∷ b ∷ c ∷ d ∷ []) h = refl
+few ws (a ∷ b ∷ c ∷ d ∷ e ∷ rs) h = absurd (omega arith)
+
+pub losses-end : (ws rs : List ℕ) (i : ℕ) → length rs < i + 5 → map sign (lossLines ws (drop i rs)) ≡ []
+losses-end ws rs i h = rw (few ws (drop i rs) (rw (length-drop i rs) (omega arith)))
 
 -- ---- origins counted
 

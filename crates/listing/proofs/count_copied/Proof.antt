@@ -56,7 +56,7 @@ loop-again c =
 returns : tie.Need-returns Inv-loop μ-loop
 returns c =
     let l = c .before .loop in
-    omega (arith, copied-end (c .before .before .before .args .origins .now) (l .i) (omega arith), l .inv .2)
+    (omega (arith, copied-end (c .before .before .before .args .origins .now) (l .i) (omega arith), l .inv .2), omega arith)
 
 pub count-copied-spec : {M : Type 1} → statement M
 count-copied-spec =

@@ -4,10 +4,12 @@ use mathlib.Core.Path.{_≡_, refl, sym, ap, _∙_}
 use Prim.Native.Nat.{ℕ, suc, _+_, _-_, _≤_, _<_}
 use mathlib.Core.List.{List, [], _∷_, _++_}
 use lib.ListN.{length, getD}
-use Prim.Native.Nat.{_*_}
-use lib.ListN.{take, drop}
-use Rattle.listing.proofs.Laws.{byte-short, escaped-turn, escaped-end}
-use Rattle.listing.specs.Listing.{escapedByte, escaped}
+use lib.ListN.{drop}
+use mathlib.Core.List.{map}
+use Rattle.text.proofs.Writing.{Writing, start, more as go-on, done}
+use Rattle.text.specs.Cells.{cells, sign}
+use Rattle.listing.proofs.Laws.{escaped-turn, escaped-end}
+use Rattle.listing.specs.Listing.{escaped}
 use Rattle.listing.proofs.put_escaped.Statement.{statement}
 use Rattle.listing.proofs.put_escaped.Tie as tie
 use Rattle.listing.proofs.put_escaped.Reads as reads
@@ -15,41 +17,49 @@ use Rattle.listing.proofs.put_escaped.Lts as lts
 use Rattle.listing.proofs.put_byte.Reads as put-byte-reads
 
 abbrev Inv-loop : tie.InvT-loop
-Inv-loop src buf₀ i₀ at₀ buf i at = (i ≤ length src) × (length buf ≡ length buf₀) × (at ≤ 2 * i) × (escaped src ≡ take at buf ++ escaped (drop i src))
+Inv-loop src buf₀ nums₀ i₀ to₀ buf nums i to = (i ≤ length src) × (length buf ≡ length buf₀) × (length nums ≡ length nums₀)
+    × Writing (cells buf₀ nums₀) (to₀ .0) (cells buf nums) (to .0) (map sign (escaped (drop i src))) (map sign (escaped src))
 
 abbrev μ-loop : tie.MeasureT-loop
-μ-loop src buf₀ i₀ at₀ buf i at = length src - i
+μ-loop src buf₀ nums₀ i₀ to₀ buf nums i to = length src - i
 
+-- src/lib.rt:34:5
 loop-holds : tie.Need-loop-holds Inv-loop μ-loop
-loop-holds c = (search needs, refl, search needs, refl)
+loop-holds c = (search needs, refl, refl, start _ _ _)
 
+-- src/lib.rt:35:23
 shared-slice-read-put-byte : tie.Need-shared-slice-read-put-byte Inv-loop μ-loop
 shared-slice-read-put-byte c = search needs
 
+-- src/lib.rt:35:9
 put-byte-requires : tie.Need-put-byte-requires Inv-loop μ-loop
 put-byte-requires c κs = search needs
 
+-- src/lib.rt:36:9
 add-i : tie.Need-add-i Inv-loop μ-loop
 add-i c = search needs
 
+-- src/lib.rt:34:5
 loop-less : tie.Need-loop-less Inv-loop μ-loop
 loop-less c = search needs
 
+-- src/lib.rt:34:5
 loop-again : tie.Need-loop-again Inv-loop μ-loop
-loop-again c =
-    let p = c .before .before in
-    let k = p .before .before .before .before in
-    let s = k .before .before .before .args .src .now in
-    let short = byte-short (getD s (k .loop .i) 0) in
-    (search needs, search needs, omega (arith, p .put-byte .ensures .behind), k .loop .inv .3 ∙ escaped-turn s _ _ (k .loop .i) _ _ (omega arith) (p .put-byte .ensures))
+loop-again c = let l = c .before .before .before .before .before .before .before .before .before .loop in
+    (search needs, search needs, search needs, go-on (l .inv .3) (escaped-turn _ (l .i) (omega arith)) (c .before .before .before .before .put-byte .ensures))
 
+-- src/lib.rt:29:1
 same-length : tie.Need-same-length Inv-loop μ-loop
 same-length c = search needs
 
+-- src/lib.rt:29:1
+same-length-2 : tie.Need-same-length-2 Inv-loop μ-loop
+same-length-2 c = search needs
+
+-- src/lib.rt:29:1
 returns : tie.Need-returns Inv-loop μ-loop
-returns c =
-    let l = c .before .loop in
-    (omega arith, escaped-end _ _ (l .i) (l .at) (omega arith) ∙ sym (l .inv .3))
+returns c = let l = c .before .loop in
+    done (l .inv .3) (escaped-end _ (l .i) (omega arith))
 
 pub put-escaped-spec : {M : Type 1} → statement M
 put-escaped-spec =
@@ -64,4 +74,5 @@ put-escaped-spec =
     loop-less
     loop-again
     same-length
+    same-length-2
     returns)
