@@ -3,6 +3,7 @@
 --                        nothing more)"; the losses take five numbers a record
 --   postListing ..       what is printed of a post, with m output bytes, k origins, j record numbers, b loss bytes, w work bytes and n work numbers
 --                        lent: "at most 1,024 bytes (longer: 1)"
+--   threadListing ..     what the program prints of a post
 -- Assumes nothing.
 use Prim.Native.Nat.{ℕ, _*_}
 use mathlib.Core.Bool.{cond}
@@ -31,3 +32,7 @@ postListing post m k j b w n =
     cond (ltb 1024 (length post)) (line (ascii "result=") (decimal 1))
     (answerListing (answered post (record { out = m; origins = k; work = w; numbers = n; spans = Without }) j b)
     (padded m (bytes (finished post))) (padded k (origins (finished post))) (padded j (lossRecords post (marksText post))) (padded b (lossBytes (marksText post))))
+
+-- "lending 2,048 output bytes, 64 records, 1,024 loss bytes", and what a post of 1,024 bytes needs of the rest
+abbrev pub threadListing : List ℕ → List ℕ
+threadListing post = postListing post 2048 2048 320 1024 7168 14400

@@ -9,7 +9,7 @@ ghost use mathlib.Core.Path.{_≡_};
 ghost use Prim.Native.Nat.{_*_, _≤_, min};
 ghost use lib.ListN.{length};
 ghost use Rattle.listing.specs.Listing.{Adds};
-ghost use Rattle.post_listing.specs.Prints.{answerListing, postListing};
+ghost use Rattle.post_listing.specs.Prints.{answerListing, postListing, threadListing};
 ghost use Rattle.post.specs.declared.Posted.the-variants.{Done};
 
 // The longest post that the program takes.
@@ -65,7 +65,7 @@ fn list_done(
 }
 
 // Converts a post in lent memory and lists it.
-pub fn list_post(
+fn list_post(
     post: &[u8],
     out: &mut [u8],
     origins: &mut [u32],
@@ -97,4 +97,27 @@ pub fn list_post(
             nums,
         ),
     }
+}
+
+// Converts a post in the memory that document 01 has the program lend, and lists it.
+pub fn list_thread(post: &[u8], buf: &mut [u8], nums: &mut [u32]) -> TextAt
+    ensures { λ r. ⌜ Adds (now (buf .entry)) (now (nums .entry)) 0 (now (buf .exit)) (now (nums .exit)) (r .0) (threadListing (now (post .entry))) ⌝ }
+{
+    let mut out = [0u8; 2048];
+    let mut origins = [0u32; 2048];
+    let mut records = [0u32; 320];
+    let mut loss_bytes = [0u8; 1024];
+    let mut work = [0u8; 7168];
+    let mut numbers = [0u32; 14400];
+    list_post(
+        post,
+        &mut out,
+        &mut origins,
+        &mut records,
+        &mut loss_bytes,
+        &mut work,
+        &mut numbers,
+        buf,
+        nums,
+    )
 }
