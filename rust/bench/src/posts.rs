@@ -85,8 +85,8 @@ pub fn forum(n: usize) -> Vec<u8> {
         match draws.below(20) {
             0..=4 => quote(draws, &mut post, 0),
             5..=6 => list(draws, &mut post, 0),
-            7 => post.extend(["[code]if [b] < 2 {\n  ", draws.of(WORDS), "\n}[/code]\n"]),
-            8 => post.extend(["Use [c]", draws.of(WORDS), "[/c] or [noparse][quote][/noparse] here.\n"]),
+            7 => post.extend(["[code]if a[i] < 2 {\n  ", draws.of(WORDS), "[0] = 1;\n}[/code]\n"]),
+            8 => post.extend(["Use [c]", draws.of(WORDS), "[/c] or [noparse][b]", draws.of(WORDS), "[/b][/noparse] here.\n"]),
             _ => paragraph(draws, &mut post),
         }
         post.push('\n');

@@ -8,10 +8,10 @@ use crate::{
 };
 use std::{hint::black_box, time::Duration};
 
-/// How long the least of a contender's samples is looked for.
-const EACH: Duration = Duration::from_millis(400);
-/// A contender that takes longer than this for a post is not given a longer one.
-const PATIENCE: Duration = Duration::from_millis(1500);
+/// How much time the least of a contender's samples is looked for.
+const EACH: Duration = Duration::from_millis(150);
+/// A contender that takes longer than a quarter of this for a post is not given a longer one.
+const PATIENCE: Duration = Duration::from_millis(600);
 
 pub const MOST: usize = 262_144;
 
@@ -83,7 +83,7 @@ fn forum(n: usize) -> Forum {
     agree("forum", &post, &mut lent);
     let mut cells = (vec![0; lent.out.len()], vec![0; lent.out.len()]);
     let mut result = Lent::for_post(&post);
-    result.convert(&post);
+    assert_eq!(result.convert(&post), 0, "a forum-like post is converted");
     let times = time::in_turns(
         EACH,
         &mut [

@@ -2,7 +2,7 @@
 
 use std::{
     ffi::{c_int, c_long},
-    time::{Duration, Instant},
+    time::Duration,
 };
 
 #[repr(C)]
@@ -48,9 +48,9 @@ fn calls_in_a_sample(call: &mut dyn FnMut()) -> u32 {
 pub fn in_turns(each: Duration, contenders: &mut [&mut dyn FnMut()]) -> Vec<f64> {
     let calls: Vec<u32> = contenders.iter_mut().map(|c| calls_in_a_sample(*c)).collect();
     let mut least = vec![f64::INFINITY; contenders.len()];
-    let until = Instant::now() + each * contenders.len() as u32;
+    let until = now() + each.as_nanos() as f64 * contenders.len() as f64;
     let mut rounds = 0;
-    while rounds < 5 || Instant::now() < until {
+    while rounds < 5 || now() < until {
         for ((contender, calls), least) in contenders.iter_mut().zip(&calls).zip(&mut least) {
             *least = least.min(sample(*calls, *contender));
         }
@@ -61,10 +61,10 @@ pub fn in_turns(each: Duration, contenders: &mut [&mut dyn FnMut()]) -> Vec<f64>
 
 /// Nanoseconds of one call; the least of up to five, as long as they fit into `within`.
 pub fn bounded(within: Duration, mut call: impl FnMut()) -> f64 {
-    let start = Instant::now();
+    let until = now() + within.as_nanos() as f64;
     let mut least = sample(1, &mut call);
     for _ in 1..5 {
-        if start.elapsed() + Duration::from_nanos(least as u64) > within {
+        if now() + least > until {
             break;
         }
         least = least.min(sample(1, &mut call));
