@@ -90,7 +90,7 @@ fn growth(sheet: &mut Sheet, runs: &Runs) {
     let top = legend + 26.0;
     let bottom = top + runs.hard.len() as f64 * ROW + 4.0;
     for (tick, words, class) in
-        [(1.0, "1", "grid"), (2.0, "2: linear", "grid"), (2.5, "", "bound"), (4.0, "4: quadratic", "grid"), (4.5, "", "bound"), (8.0, "8", "grid")]
+        [(1.0, "1", "grid"), (2.0, "2: linear", "grid"), (2.5, "", "bound"), (4.0, "4: quadratic", "grid"), (4.5, "", "bound"), (8.0, "8 and more", "grid")]
     {
         let x = log(tick, low, high);
         sheet.line(x, top, x, bottom, class);
