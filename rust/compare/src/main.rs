@@ -2,6 +2,7 @@
 use compare::{model, pieces::{Draws, PIECES}};
 
 fn main() {
+    oracle::keep_patterns();
     let mut arguments = std::env::args().skip(1).map(|a| a.parse::<u64>().expect("a number"));
     let count = arguments.next().unwrap_or(100_000);
     let seed = arguments.next().unwrap_or(1);
