@@ -1,0 +1,176 @@
+//! One text tried: calls at the sizes that tell, each held to the answer that document 01 gives.
+
+use crate::guarded::{Left, Memory};
+use crate::judge::{Answer, Operation, Sizes, Step};
+use crate::model;
+use crate::pieces::Draws;
+use carve::Record;
+
+/// What the calls have met so far.
+#[derive(Default, Clone)]
+pub struct Tally {
+    pub texts: u64,
+    pub calls: u64,
+    /// By document 01's number; 0 is done.
+    pub numbers: [u64; 10],
+    pub losses: u64,
+    pub marks: u64,
+}
+
+impl Tally {
+    pub fn add(&mut self, other: &Tally) {
+        self.texts += other.texts;
+        self.calls += other.calls;
+        self.losses += other.losses;
+        self.marks += other.marks;
+        self.numbers.iter_mut().zip(other.numbers).for_each(|(mine, more)| *mine += more);
+    }
+}
+
+/// The first place where two slices differ, `found` being as long as it was lent and `expected` going on with zeros.
+fn compare<T: Copy + Default + PartialEq + std::fmt::Debug>(name: &str, expected: &[T], found: &[T]) -> Result<(), String> {
+    let expected = |i: usize| expected.get(i).copied().unwrap_or_default();
+    match found.iter().enumerate().find(|&(i, x)| *x != expected(i)) {
+        None => Ok(()),
+        Some((i, x)) => Err(format!("{name}[{i}] is {x:?} and not {:?}", expected(i))),
+    }
+}
+
+fn hold(answer: &Answer, number: u32, left: &Left) -> Result<(), String> {
+    if left.number != number {
+        return Err(format!("the number is {} and not {number}", left.number));
+    }
+    let nothing = Answer::refused(vec![]);
+    let answer = if number == 0 { answer } else { &nothing };
+    let (mut records, mut loss_bytes) = (Vec::new(), Vec::new());
+    for (quote, line, unnamed, field) in &answer.losses {
+        let (start, length) = (loss_bytes.len() as u32, field.len() as u32);
+        records.push(Record { quote: *quote, line: *line, unnamed: u32::from(*unnamed), start, length });
+        loss_bytes.extend(field.bytes());
+    }
+    let second = if answer.spans.is_empty() { records.len() } else { answer.spans.len() / 2 };
+    compare("counts", &[answer.text.len() as u32, second as u32, loss_bytes.len() as u32], &left.counts)?;
+    compare("out", &answer.text, left.out)?;
+    compare("origins", &answer.origins, left.origins)?;
+    compare("spans", &answer.spans, left.spans)?;
+    compare("records", &records, left.records)?;
+    compare("loss_bytes", &loss_bytes, left.loss_bytes)
+}
+
+/// Sizes that tell: all exact; all roomy; each need and each lent size one short; several short at once, for the order of the refusals.
+fn sizes(operation: Operation, n: usize, answer: &Answer, draws: &mut Draws) -> Vec<Sizes> {
+    let (losses, loss_bytes) = (answer.losses.len(), answer.loss_bytes());
+    let least = |m: usize, losses: usize, loss_bytes: usize| Sizes::least(operation, n, m, losses, loss_bytes);
+    if operation == Operation::Day {
+        return [0, 9, 10, 11 + draws.below(30)].map(|m| least(m, 0, 0)).to_vec();
+    }
+    let need = answer.need();
+    let exact = least(need, losses, loss_bytes);
+    let mut all = vec![exact];
+    let roomy = least(need + draws.below(40), losses + draws.below(4), loss_bytes + draws.below(9));
+    let more = |lent: bool, size: usize, draws: &mut Draws| if lent { size + draws.below(9) } else { 0 };
+    all.push(Sizes {
+        origins: roomy.origins + draws.below(9),
+        spans: more(operation.lent_spans(), roomy.spans, draws),
+        records: more(operation.lent_records(), losses, draws),
+        loss_bytes: more(operation.lent_records(), loss_bytes, draws),
+        work: roomy.work + draws.below(9),
+        numbers: roomy.numbers + draws.below(9),
+        ..roomy
+    });
+    let mut needs: Vec<usize> = answer.steps.iter().filter_map(|step| if let Step::Need(need) = step { Some(*need) } else { None }).collect();
+    needs.sort_unstable();
+    needs.dedup();
+    for m in needs {
+        if let Some(short) = m.checked_sub(1) {
+            all.push(least(short, losses, loss_bytes));
+            if losses > 0 {
+                all.push(least(short, losses - 1, loss_bytes));
+            }
+        }
+        if m != need {
+            all.push(least(m, losses, loss_bytes));
+        }
+    }
+    all.push(least(0, 0, 0));
+    if operation.lent_records() && losses > 0 {
+        all.push(least(need, losses - 1, loss_bytes));
+        if loss_bytes > 0 {
+            all.push(least(need, losses, loss_bytes - 1));
+            all.push(least(need, losses - 1, loss_bytes - 1));
+            all.push(least(0, losses, loss_bytes - 1));
+        }
+    }
+    // Any one short, and any one or two.
+    let shorter = |sizes: &mut Sizes, which: usize| {
+        let size = match which {
+            0 => &mut sizes.origins,
+            1 => &mut sizes.work,
+            2 => &mut sizes.numbers,
+            _ => &mut sizes.spans,
+        };
+        *size = size.saturating_sub(1);
+    };
+    for which in 0..4 {
+        let mut one = exact;
+        shorter(&mut one, which);
+        if one != exact {
+            all.push(one);
+        }
+    }
+    let mut two = least(draws.below(need + 1), losses.saturating_sub(draws.below(2)), loss_bytes.saturating_sub(draws.below(2)));
+    shorter(&mut two, draws.below(4));
+    all.push(two);
+    all
+}
+
+/// The text with a byte that no text may have, or with two: what comes back is 3, or 4, or 2 before them.
+fn spoilt(text: &str, draws: &mut Draws) -> Vec<Vec<u8>> {
+    let mut with = |bad: &[&[u8]]| {
+        let mut bytes = text.as_bytes().to_vec();
+        for bad in bad {
+            let at = draws.below(bytes.len() + 1);
+            bytes.splice(at..at, bad.iter().copied());
+        }
+        bytes
+    };
+    vec![with(&[b"\0"]), with(&[b"\r"]), with(&[b"\xFF"]), with(&[b"\xED\xA0\x80"]), with(&[b"\r", b"\xC3"])]
+}
+
+/// Tries one text. An error says what differs, at which sizes.
+pub fn check(operation: Operation, text: &str, memory: &mut Memory, seed: u64, tally: &mut Tally) -> Result<(), String> {
+    let mut draws = Draws::of(seed, text.as_bytes());
+    let answer = Answer::of(operation, text)?;
+    tally.texts += 1;
+    tally.losses += answer.losses.len() as u64;
+    tally.marks += answer.spans.len() as u64 / 2;
+    let mut call = |bytes: &[u8], answer: &Answer, sizes: &Sizes, draws: &mut Draws| {
+        let number = answer.number(operation, bytes, sizes);
+        tally.calls += 1;
+        tally.numbers[number as usize] += 1;
+        let left = memory.call(operation, bytes, sizes, draws).map_err(|wrong| format!("{wrong}, lent {sizes:?}"))?;
+        hold(answer, number, &left).map_err(|wrong| format!("{wrong}, lent {sizes:?}"))?;
+        if let (0, Some(taken)) = (number, &answer.taken) {
+            let length = left.counts[0] as usize;
+            model::demand3(text, &left.out[..length], &left.origins[..length], taken)?;
+        }
+        Ok::<(), String>(())
+    };
+    for sizes in sizes(operation, text.len(), &answer, &mut draws) {
+        call(text.as_bytes(), &answer, &sizes, &mut draws)?;
+    }
+    if operation != Operation::Day {
+        let spoilt = spoilt(text, &mut draws);
+        // Long texts are spoilt once, since each call costs.
+        let (from, many) = if text.len() < 4096 { (0, spoilt.len()) } else { (draws.below(spoilt.len()), 1) };
+        for bytes in &spoilt[from..from + many] {
+            let refused = Answer::refused(vec![]);
+            let mut sizes = Sizes::least(operation, bytes.len(), draws.below(9), 1, 1);
+            if draws.below(4) == 0 {
+                sizes.numbers -= 1;
+            }
+            call(bytes, &refused, &sizes, &mut draws)?;
+        }
+    }
+    Ok(())
+}
