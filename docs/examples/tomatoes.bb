@@ -20,17 +20,13 @@ So the steps are:
 [*]copper, 3 g/l, [b][i]not in the sun[/i][/b]
 [*]milk and water, 1:9 (see below)
 [/list]
-[*]Mulch with straw, so that rain doesn't splash [icode]spores[/icode] up again.
+[*]Mulch with straw, so that rain doesn't splash spores up again.
 [/list]
 
 [quote name="Old Tom" date="May 2004" rank=Gardener joined=1999]
-[b]My mix[/b], for years:
-[code]
-1 part milk
-9 parts water
-[/code]
-Every ten days, in the evening.
-[list][*]No soap.[*]No sugar.[/list]
+[b]My mix[/b], for years: 1 part milk, 9 parts water. Every ten days, in the evening.
+
+[i]No soap, no sugar.[/i]
 [/quote]
 
-@Tom: mine got worse with milk :( But *copper* worked. [b]Thanks[/b]!
+@Tom: mine got worse with milk :( But copper worked. [b]Thanks[/b]!

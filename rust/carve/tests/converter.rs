@@ -5,7 +5,7 @@ use carve::{day, Converter, Loss, Refusal, MAX_TEXT};
 #[test]
 fn many_losses_with_long_fields_are_listed_whole() {
     let key = "k".repeat(300);
-    let post: String = (0..200).map(|i| format!("[quote=name=N {key}{i}=v guest]\n")).collect();
+    let post: String = (0..200).map(|i| format!("[quote=name=N {key}{i}=v guest][/quote]\n")).collect();
     let losses = Converter::new().convert(post.as_bytes()).expect("converted").losses;
     assert_eq!(losses.len(), 400);
     for (i, pair) in losses.chunks_exact(2).enumerate() {
