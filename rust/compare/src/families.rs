@@ -33,13 +33,58 @@ const PASSES: [Operation; 4] = [Operation::POST, Operation::MARKS, Operation::QU
 
 /// Document 01's positions, and the texts by which it can be read in one way only.
 const READINGS: &[&str] = &[
-    "", "a", "a[b]b[/b]", "[b][i]x[/b][/i]", "[b]x[b]y[/b]z[/b]", "[i][b]x[/b][/i]", "{[b]x[/b]}", "\\[/b]*[b]x[/b]", "[b]x{[/b]", "*[b][/b][i]x[/i]",
-    "\\{[b]x[/b]}", "{[b]x[/b][/i]}", "[list][*]a[*][*]b[/list]", "[list=1][*]a[list][*]b[/list][/list]", "[list=]x[/list]", "[list][*][*]a",
-    "[list]a[list]b", "[list][/list][list=1][*]a", "[list=[list]x", "[list] [*]  [list]", "[list][*]   [list]", "[/quote]x", "[quote]a\na[/quote]",
-    "[quote][/quote]", "[quote=Ann;7 rank=3]Seed [b]late[/b][/quote]", "[quote][quote=\"x\u{a0}\"]a[/quote][/quote]", "[list][[b]]x[/b][/list]",
-    "[list][[i]list][/i]", "[quote=[list=][/quote]1]x", "[li[/quote]st][*]a", "[quote=[b]x[/b]]", "[quote=[c]é[/c]][quote=        ]\n[quote= [i]x[/i] k=1]",
-    "\"42\" Ann", ";7", "name=Ann rank=3 guest", "name=\"A\"b", "k=\"a b", "a=b=c", "id=x id=5", "name= author=B", "\"\" \"4\"", "\"9\" post_id=1 id=2",
-    "Ann;7;8", "x ;7", "name=N x ;7", "name=N ;7", "name=N a \"\" b", "date=d time=12:30", "date=\"\" time=t", "951782400", "99999999999", "12345678",
+    "",
+    "a",
+    "a[b]b[/b]",
+    "[b][i]x[/b][/i]",
+    "[b]x[b]y[/b]z[/b]",
+    "[i][b]x[/b][/i]",
+    "{[b]x[/b]}",
+    "\\[/b]*[b]x[/b]",
+    "[b]x{[/b]",
+    "*[b][/b][i]x[/i]",
+    "\\{[b]x[/b]}",
+    "{[b]x[/b][/i]}",
+    "[list][*]a[*][*]b[/list]",
+    "[list=1][*]a[list][*]b[/list][/list]",
+    "[list=]x[/list]",
+    "[list][*][*]a",
+    "[list]a[list]b",
+    "[list][/list][list=1][*]a",
+    "[list=[list]x",
+    "[list] [*]  [list]",
+    "[list][*]   [list]",
+    "[/quote]x",
+    "[quote]a\na[/quote]",
+    "[quote][/quote]",
+    "[quote=Ann;7 rank=3]Seed [b]late[/b][/quote]",
+    "[quote][quote=\"x\u{a0}\"]a[/quote][/quote]",
+    "[list][[b]]x[/b][/list]",
+    "[list][[i]list][/i]",
+    "[quote=[list=][/quote]1]x",
+    "[li[/quote]st][*]a",
+    "[quote=[b]x[/b]]",
+    "[quote=[c]é[/c]][quote=        ]\n[quote= [i]x[/i] k=1]",
+    "\"42\" Ann",
+    ";7",
+    "name=Ann rank=3 guest",
+    "name=\"A\"b",
+    "k=\"a b",
+    "a=b=c",
+    "id=x id=5",
+    "name= author=B",
+    "\"\" \"4\"",
+    "\"9\" post_id=1 id=2",
+    "Ann;7;8",
+    "x ;7",
+    "name=N x ;7",
+    "name=N ;7",
+    "name=N a \"\" b",
+    "date=d time=12:30",
+    "date=\"\" time=t",
+    "951782400",
+    "99999999999",
+    "12345678",
 ];
 
 /// Families that cost the original more than a constant for each byte, and others at a limit: a start, what is repeated, an end.
@@ -119,7 +164,9 @@ pub fn families(extent: Extent, seed: u64) -> Vec<Family> {
     let times = |gate: u64, many: u64| if long { many } else { gate };
     let draws = move |family: u64, number: u64| Draws::at(seed.wrapping_add(family << 56), number);
     vec![
-        family("readings of document 01", Sort::Short, READINGS.len() as u64, |number| (Operation::ALL.to_vec(), READINGS[number as usize].to_string())),
+        family("readings of document 01", Sort::Short, READINGS.len() as u64, |number| {
+            (Operation::ALL.to_vec(), READINGS[number as usize].to_string())
+        }),
         exhaustive(Operation::MARKS, "marks", pieces::MARKS, up_to(5)),
         exhaustive(Operation::MARKS, "marks of the other kinds", pieces::MARKS_OTHER, up_to(4)),
         exhaustive(Operation::QUOTES, "quotes", pieces::QUOTES, up_to(4)),
@@ -131,7 +178,7 @@ pub fn families(extent: Extent, seed: u64) -> Vec<Family> {
         exhaustive(Operation::POST, "posts", pieces::POST, up_to(4)),
         exhaustive(Operation::POST, "posts of joined tags", pieces::POST_JOINED, up_to(4)),
         days(),
-        family("random posts, all passes", Sort::Random, times(30_000, 300_000), move |number| {
+        family("random posts, all passes", Sort::Random, times(40_000, 300_000), move |number| {
             let mut draws = draws(1, number);
             let room = [6, 15, 40, 150][draws.below(4)];
             (PASSES.to_vec(), grammar::post(&mut draws, room))
@@ -139,7 +186,7 @@ pub fn families(extent: Extent, seed: u64) -> Vec<Family> {
         family("random attributions", Sort::Random, times(30_000, 300_000), move |number| {
             (vec![Operation::ATTRIBUTION], grammar::attribution(&mut draws(2, number)))
         }),
-        family("random depths around 64", Sort::Random, times(1_000, 10_000), move |number| (PASSES.to_vec(), deep(&mut draws(3, number)))),
+        family("random depths around 64", Sort::Random, times(600, 5_000), move |number| (PASSES.to_vec(), deep(&mut draws(3, number)))),
         family("random days", Sort::Random, times(20_000, 200_000), move |number| {
             let mut draws = draws(4, number);
             let text = (0..draws.below(14)).map(|_| draws.pick(&["0", "1", "9", "5", "7", "3", "0", "2", "8", "4"])).collect::<String>();
@@ -150,7 +197,7 @@ pub fn families(extent: Extent, seed: u64) -> Vec<Family> {
             let size = if (number as usize) < REPEATED.len() { 8_192 } else { 40_000 };
             (PASSES.to_vec(), repeated(which, size))
         }),
-        family("long posts", Sort::Long, times(16, 120), move |number| {
+        family("long posts", Sort::Long, times(16, 100), move |number| {
             let mut draws = draws(5, number);
             let size = match number % 4 {
                 0 => MAX_TEXT,

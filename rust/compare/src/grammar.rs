@@ -8,23 +8,78 @@ const BLANKS: &[&str] = &[
     "\u{2006}", "\u{2007}", "\u{2008}", "\u{2009}", "\u{200a}", "\u{2028}", "\u{2029}", "\u{202f}", "\u{205f}", "\u{3000}",
 ];
 /// Letters of each width, the long s and the Kelvin sign among them; U+200B and U+FEFF are not blank.
-const LETTERS: &[&str] = &["a", "Z", "9", "é", "ſ", "ß", "\u{212a}", "中", "\u{200b}", "\u{feff}", "\u{fffd}", "\u{1f600}", "\u{10ffff}", "\u{7f}", "\u{1}"];
-const WORDS: &[&str] = &["seed", "late", "x", "two words", "snake_case", "a/b", "1", "2.", "- dash", "> quoted", "^ caption", "[not a tag]", "[", "]"];
+const LETTERS: &[&str] =
+    &["a", "Z", "9", "é", "ſ", "ß", "\u{212a}", "中", "\u{200b}", "\u{feff}", "\u{fffd}", "\u{1f600}", "\u{10ffff}", "\u{7f}", "\u{1}"];
+const WORDS: &[&str] =
+    &["seed", "late", "x", "two words", "snake_case", "a/b", "1", "2.", "- dash", "> quoted", "^ caption", "[not a tag]", "[", "]"];
 const SIGNS: &[&str] = &["*", "/", "_", "~", "=", "{", "}", "\\", "\\\\", "#", "@", ":", "\"", "'", ";", ">", "^", "-", ".", ")"];
 const MASKS: &[(&str, &str)] = &[
-    ("[code]", "[/code]"), ("[code=x y]", "[/CODE]"), ("[c]", "[/c]"), ("[icode]", "[/icode]"), ("[C]", "[/icode]"), ("[noparse]", "[/noparse]"),
-    ("[noparſe]", "[/noparſe]"), ("[code=", "[/code]"),
+    ("[code]", "[/code]"),
+    ("[code=x y]", "[/CODE]"),
+    ("[c]", "[/c]"),
+    ("[icode]", "[/icode]"),
+    ("[C]", "[/icode]"),
+    ("[noparse]", "[/noparse]"),
+    ("[noparſe]", "[/noparſe]"),
+    ("[code=", "[/code]"),
 ];
 const LIST_VALUES: &[&str] = &["", "", "", "=1", "=1", "= 1", "=1\u{2003}", "=\u{a0}1 ", "=a", "=", "=01", "=1 1", "=\n1", "=[list]", "=[b]1[/b]"];
 const STRAY: &[&str] = &[
-    "[/b]", "[/i]", "[/u]", "[/s]", "[/quote]", "[/list]", "[*]", "[b]", "[u]", "[quote]", "[list]", "[/code]", "[code]", "[quote=", "[quote ",
-    "[list=", "[liſt]", "[ſ]", "[/ſ]", "[b ]", "[ b]", "[bb]", "[/ b]", "[*", "*]", "[quote\n]", "[quote\t=a]", "[quotes]", "[/quote", "[li", "st]",
+    "[/b]",
+    "[/i]",
+    "[/u]",
+    "[/s]",
+    "[/quote]",
+    "[/list]",
+    "[*]",
+    "[b]",
+    "[u]",
+    "[quote]",
+    "[list]",
+    "[/code]",
+    "[code]",
+    "[quote=",
+    "[quote ",
+    "[list=",
+    "[liſt]",
+    "[ſ]",
+    "[/ſ]",
+    "[b ]",
+    "[ b]",
+    "[bb]",
+    "[/ b]",
+    "[*",
+    "*]",
+    "[quote\n]",
+    "[quote\t=a]",
+    "[quotes]",
+    "[/quote",
+    "[li",
+    "st]",
 ];
 
 const KEYS: &[&str] = &["name", "author", "post_id", "id", "date", "time", "k", "rank", "NAME", "Id", "Post_ID", "_a-1", "tíme", "9k"];
 const VALUES: &[&str] = &[
-    "Ann", "B", "7", "42", "007", "951782400", "99999999999", "12345678", "123456789012", "12:30", "d", "a=b", "x;7", "é", "ſ", ";", "a\\b", "[b]x[/b]",
-    "\u{a0}", "",
+    "Ann",
+    "B",
+    "7",
+    "42",
+    "007",
+    "951782400",
+    "99999999999",
+    "12345678",
+    "123456789012",
+    "12:30",
+    "d",
+    "a=b",
+    "x;7",
+    "é",
+    "ſ",
+    ";",
+    "a\\b",
+    "[b]x[/b]",
+    "\u{a0}",
+    "",
 ];
 const APART: &[&str] = &[" ", " ", " ", "  ", "\t", "\n", "\u{c}", "", "\u{b}", "\u{a0}", "\u{3000}"];
 

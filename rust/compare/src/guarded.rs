@@ -149,3 +149,19 @@ impl Memory {
         })
     }
 }
+
+#[cfg(test)]
+mod tests {
+    use super::*;
+
+    #[test]
+    fn a_write_past_either_end_is_seen() {
+        for (at, whole) in [(GUARD - 1, false), (GUARD, true), (GUARD + 4, true), (GUARD + 5, false)] {
+            let mut guarded = Guarded::new();
+            guarded.fill(5, || 7u8);
+            assert!(guarded.whole() && guarded.slice() == [7; 5]);
+            guarded.all[at] = 0;
+            assert_eq!(guarded.whole(), whole);
+        }
+    }
+}

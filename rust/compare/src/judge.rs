@@ -17,8 +17,7 @@ impl Operation {
     pub const QUOTES: Operation = Operation::OnText(carve::Operation::Quotes);
     pub const LISTS: Operation = Operation::OnText(carve::Operation::Lists);
     pub const ATTRIBUTION: Operation = Operation::OnText(carve::Operation::Attribution);
-    pub const ALL: [Operation; 6] =
-        [Operation::POST, Operation::MARKS, Operation::QUOTES, Operation::LISTS, Operation::ATTRIBUTION, Operation::Day];
+    pub const ALL: [Operation; 6] = [Operation::POST, Operation::MARKS, Operation::QUOTES, Operation::LISTS, Operation::ATTRIBUTION, Operation::Day];
 
     pub fn name(self) -> &'static str {
         match self {
@@ -75,11 +74,7 @@ impl Sizes {
             return self.out >= 10;
         }
         let least = Sizes::least(operation, n, self.out, 0, 0);
-        self.out <= MAX_OUT
-            && self.origins >= least.origins
-            && self.spans >= least.spans
-            && self.work >= least.work
-            && self.numbers >= least.numbers
+        self.out <= MAX_OUT && self.origins >= least.origins && self.spans >= least.spans && self.work >= least.work && self.numbers >= least.numbers
     }
 }
 
@@ -166,6 +161,9 @@ impl Answer {
 
     /// The answer on a text. It is an error where model and original disagree.
     pub fn of(operation: Operation, text: &str) -> Result<Answer, String> {
+        if operation != Operation::Day && text.len() > MAX_TEXT {
+            return Ok(Answer::refused(vec![]));
+        }
         let judged = for_the_original(text);
         let answer = match operation {
             Operation::POST => {
@@ -240,4 +238,57 @@ fn lists_steps(pass: &Pass) -> Vec<Step> {
 
 fn post_steps(post: &model::Post) -> Vec<Step> {
     [vec![Step::Need(post.marks.need)], quotes_steps(&post.quotes), lists_steps(&post.lists)].concat()
+}
+
+#[cfg(test)]
+mod tests {
+    use super::*;
+
+    fn number(operation: Operation, text: &[u8], change: impl FnOnce(&mut Sizes)) -> u32 {
+        let answer = std::str::from_utf8(text).map_or_else(|_| Answer::refused(vec![]), |text| Answer::of(operation, text).expect("one answer"));
+        let mut sizes = Sizes::least(operation, text.len(), answer.need(), answer.losses.len(), answer.loss_bytes());
+        change(&mut sizes);
+        answer.number(operation, text, &sizes)
+    }
+
+    /// The first refusal of document 01's line wins.
+    #[test]
+    fn refusals_in_their_order() {
+        let post = b"[quote=k=]x";
+        assert_eq!(number(Operation::POST, post, |_| ()), 0);
+        assert_eq!(number(Operation::POST, &[0xFF; MAX_TEXT + 1], |sizes| sizes.work = 0), 1);
+        assert_eq!(number(Operation::POST, b"\xFF\0", |sizes| sizes.work -= 1), 2);
+        assert_eq!(number(Operation::MARKS, b"[b]", |sizes| sizes.spans -= 1), 2);
+        assert_eq!(number(Operation::POST, b"", |sizes| sizes.out = MAX_OUT + 1), 2);
+        assert_eq!(number(Operation::POST, b"\xFF\0", |_| ()), 3);
+        assert_eq!(number(Operation::POST, b"\0", |_| ()), 4);
+        let deep = "[quote=k=]".repeat(65);
+        let short = |sizes: &mut Sizes| (sizes.records, sizes.loss_bytes, sizes.out) = (0, 0, 0);
+        assert_eq!(number(Operation::QUOTES, deep.as_bytes(), short), 5);
+        // In a whole post the marks' need comes before it.
+        assert_eq!(number(Operation::POST, deep.as_bytes(), short), 6);
+        assert_eq!(number(Operation::QUOTES, post, short), 7);
+        assert_eq!(number(Operation::QUOTES, post, |sizes| (sizes.loss_bytes, sizes.out) = (0, 0)), 8);
+        assert_eq!(number(Operation::QUOTES, post, |sizes| sizes.out -= 1), 6);
+        assert_eq!(number(Operation::Day, b"1234567890", |sizes| sizes.out = 10), 0);
+        assert_eq!(number(Operation::Day, b"12345678", |sizes| sizes.out = 10), 9);
+        assert_eq!(number(Operation::Day, b"12345678", |sizes| sizes.out = 9), 2);
+    }
+
+    #[test]
+    fn needs_of_the_readings() {
+        let need = |operation, text: &str| Answer::of(operation, text).expect("one answer").need();
+        assert_eq!(need(Operation::QUOTES, "a"), 1);
+        assert_eq!(need(Operation::LISTS, "[list] [*]  [list]"), 5);
+        assert_eq!(need(Operation::LISTS, &format!("[list][*]a{}[/list]", "[*]".repeat(100))), 7);
+        assert_eq!(need(Operation::QUOTES, &format!("[quote]{}[/quote]", " ".repeat(100))), 100);
+        assert_eq!(need(Operation::LISTS, "[list][*]   [list]"), 5);
+        assert_eq!(need(Operation::POST, "[quote][/quote]"), 15);
+    }
+
+    #[test]
+    fn the_long_s_is_an_ordinary_letter() {
+        let answer = Answer::of(Operation::MARKS, "[ſ]x[/ſ]").expect("one answer");
+        assert_eq!((answer.text.as_slice(), answer.spans.len()), ("[ſ]x[/ſ]".as_bytes(), 0));
+    }
 }

@@ -86,11 +86,18 @@ fn run(extent: Extent, seed: u64, threads: u64) -> ExitCode {
     for family in families(extent, seed) {
         let from = Instant::now();
         let (tally, found) = compare(&family, seed, threads);
-        println!("{}: {} texts tried in {} calls, {} differences, {:.1} s", family.name, tally.texts, tally.calls, found.len(), from.elapsed().as_secs_f64());
-        texts[family.sort as usize] += tally.texts;
+        println!(
+            "{}: {} texts in {} calls, {} differences, {:.1} s",
+            family.name,
+            family.count,
+            tally.calls,
+            found.len(),
+            from.elapsed().as_secs_f64()
+        );
+        texts[family.sort as usize] += family.count;
         all.add(&tally);
         differences.extend(found);
-        if differences.len() >= ENOUGH {
+        if !differences.is_empty() {
             break;
         }
     }
@@ -100,10 +107,11 @@ fn run(extent: Extent, seed: u64, threads: u64) -> ExitCode {
     println!("answers by number: {}", all.numbers.iter().enumerate().map(|(i, n)| format!("{i}: {n}")).collect::<Vec<_>>().join(", "));
     println!("marks compared: {}, losses compared: {}", all.marks, all.losses);
     println!(
-        "compare: {} short, {} random and {} long texts, {} calls, seed {seed}: {} differences in {:.0} s",
+        "compare: {} short, {} random and {} long texts in {} trials and {} calls, seed {seed}: {} differences, {:.0} s",
         texts[Sort::Short as usize],
         texts[Sort::Random as usize],
         texts[Sort::Long as usize],
+        all.trials,
         all.calls,
         differences.len(),
         begun.elapsed().as_secs_f64()

@@ -259,11 +259,7 @@ fn write(items: &[Item], spans: &mut Vec<(usize, usize)>, at: usize) -> Text {
                 if last == b'{' {
                     escape_last(&mut body);
                 }
-                let (open, close) = if braced {
-                    (vec![b'{', d], vec![d, b'}'])
-                } else {
-                    (vec![d], vec![d])
-                };
+                let (open, close) = if braced { (vec![b'{', d], vec![d, b'}']) } else { (vec![d], vec![d]) };
                 let start = at + out.len();
                 for span in &mut spans[own + 1..] {
                     span.0 += start + open.len();

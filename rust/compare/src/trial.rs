@@ -9,7 +9,8 @@ use carve::Record;
 /// What the calls have met so far.
 #[derive(Default, Clone)]
 pub struct Tally {
-    pub texts: u64,
+    /// Texts, each once for every operation that it is tried on.
+    pub trials: u64,
     pub calls: u64,
     /// By document 01's number; 0 is done.
     pub numbers: [u64; 10],
@@ -19,7 +20,7 @@ pub struct Tally {
 
 impl Tally {
     pub fn add(&mut self, other: &Tally) {
-        self.texts += other.texts;
+        self.trials += other.trials;
         self.calls += other.calls;
         self.losses += other.losses;
         self.marks += other.marks;
@@ -141,7 +142,7 @@ fn spoilt(text: &str, draws: &mut Draws) -> Vec<Vec<u8>> {
 pub fn check(operation: Operation, text: &str, memory: &mut Memory, seed: u64, tally: &mut Tally) -> Result<(), String> {
     let mut draws = Draws::of(seed, text.as_bytes());
     let answer = Answer::of(operation, text)?;
-    tally.texts += 1;
+    tally.trials += 1;
     tally.losses += answer.losses.len() as u64;
     tally.marks += answer.spans.len() as u64 / 2;
     let mut call = |bytes: &[u8], answer: &Answer, sizes: &Sizes, draws: &mut Draws| {
@@ -173,4 +174,68 @@ pub fn check(operation: Operation, text: &str, memory: &mut Memory, seed: u64, t
         }
     }
     Ok(())
+}
+
+#[cfg(test)]
+mod tests {
+    use super::*;
+
+    const POST: &str = "[quote=Ann;7 rank=3]Seed [b]late[/b][/quote]";
+
+    /// A call with room, held to an answer that was changed: is it told from the right one?
+    fn told(operation: Operation, text: &str, change: impl FnOnce(&mut Answer)) -> bool {
+        let mut answer = Answer::of(operation, text).expect("one answer");
+        let sizes = Sizes::least(operation, text.len(), answer.need() + 9, answer.losses.len() + 2, answer.loss_bytes() + 3);
+        let mut memory = Memory::default();
+        let left = memory.call(operation, text.as_bytes(), &sizes, &mut Draws::at(1, 1)).expect("guards stay whole");
+        assert_eq!(hold(&answer, 0, &left), Ok(()));
+        assert!(hold(&answer, 6, &left).is_err());
+        change(&mut answer);
+        hold(&answer, 0, &left).is_err()
+    }
+
+    #[test]
+    fn wrong_answers_are_told() {
+        assert!(told(Operation::POST, POST, |answer| answer.text[3] ^= 1));
+        assert!(told(Operation::POST, POST, |answer| answer.text.push(b'x')));
+        assert!(told(Operation::POST, POST, |answer| _ = answer.text.pop()));
+        assert!(told(Operation::POST, POST, |answer| answer.origins[5] += 1));
+        assert!(told(Operation::POST, POST, |answer| answer.losses[0].0 = 2));
+        assert!(told(Operation::POST, POST, |answer| answer.losses[0].1 = 2));
+        assert!(told(Operation::POST, POST, |answer| answer.losses[0].2 = true));
+        assert!(told(Operation::POST, POST, |answer| answer.losses[0].3 = "ränk".into()));
+        assert!(told(Operation::POST, POST, |answer| drop(answer.losses.pop())));
+        assert!(told(Operation::MARKS, "[b]x[/b]", |answer| answer.spans[1] = 2));
+    }
+
+    #[test]
+    fn every_refusal_of_a_post_is_met() {
+        let mut tally = Tally::default();
+        for text in [POST, &"[list]".repeat(65), &"a".repeat(carve::MAX_TEXT + 1)] {
+            assert_eq!(check(Operation::POST, text, &mut Memory::default(), 1, &mut tally), Ok(()));
+        }
+        assert!((0..9).all(|number| tally.numbers[number] > 0), "{:?}", tally.numbers);
+    }
+
+    /// The impostors that demand 3 is there to catch, and a byte copied twice or out of its order.
+    #[test]
+    fn demand_3_catches_impostors() {
+        let post = model::post(POST);
+        let text = model::bytes(&post.lists.text);
+        let origins: Vec<u32> = post.lists.text.iter().map(|c| c.origin).collect();
+        let demand = |text: &[u8], origins: &[u32]| model::demand3(POST, text, origins, &post.taken);
+        assert_eq!(demand(&text, &origins), Ok(()));
+        let echoed: Vec<u32> = (1..=POST.len() as u32).collect();
+        assert!(demand(POST.as_bytes(), &echoed).is_err());
+        assert!(demand(b"", &[]).is_err());
+        assert!(demand(&text, &vec![0; text.len()]).is_err());
+        let first = origins.iter().position(|&origin| origin != 0).expect("a copied byte");
+        let mut twice = (text.clone(), origins.clone());
+        twice.0.insert(first, text[first]);
+        twice.1.insert(first, origins[first]);
+        assert!(demand(&twice.0, &twice.1).is_err());
+        let mut other = text.clone();
+        other[first] ^= 1;
+        assert!(demand(&other, &origins).is_err());
+    }
 }
