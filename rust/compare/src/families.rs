@@ -3,6 +3,7 @@
 use crate::grammar;
 use crate::judge::Operation;
 use crate::pieces::{self, sequence, sequences, Draws};
+use crate::trial::WITH_LONGEST_OUTPUT;
 use carve::MAX_TEXT;
 
 /// What a family's texts count as.
@@ -33,6 +34,7 @@ const PASSES: [Operation; 4] = [Operation::POST, Operation::MARKS, Operation::QU
 
 /// Document 01's positions, and the texts by which it can be read in one way only.
 const READINGS: &[&str] = &[
+    WITH_LONGEST_OUTPUT,
     "",
     "a",
     "a[b]b[/b]",
@@ -168,22 +170,22 @@ pub fn families(extent: Extent, seed: u64) -> Vec<Family> {
             (Operation::ALL.to_vec(), READINGS[number as usize].to_string())
         }),
         exhaustive(Operation::MARKS, "marks", pieces::MARKS, up_to(5)),
-        exhaustive(Operation::MARKS, "marks of the other kinds", pieces::MARKS_OTHER, up_to(4)),
-        exhaustive(Operation::QUOTES, "quotes", pieces::QUOTES, up_to(4)),
+        exhaustive(Operation::MARKS, "marks of the other kinds", pieces::MARKS_OTHER, up_to(5)),
+        exhaustive(Operation::QUOTES, "quotes", pieces::QUOTES, up_to(5)),
         exhaustive(Operation::QUOTES, "quotes that break", pieces::QUOTES_BROKEN, up_to(4)),
-        exhaustive(Operation::LISTS, "lists", pieces::LISTS, up_to(5)),
-        exhaustive(Operation::LISTS, "list values", pieces::LISTS_VALUES, up_to(4)),
-        exhaustive(Operation::ATTRIBUTION, "attributions", pieces::ATTRIBUTION, up_to(4)),
+        exhaustive(Operation::LISTS, "lists", pieces::LISTS, up_to(6)),
+        exhaustive(Operation::LISTS, "list values", pieces::LISTS_VALUES, up_to(5)),
+        exhaustive(Operation::ATTRIBUTION, "attributions", pieces::ATTRIBUTION, up_to(5)),
         exhaustive(Operation::ATTRIBUTION, "attributions, other parts", pieces::ATTRIBUTION_OTHER, up_to(4)),
-        exhaustive(Operation::POST, "posts", pieces::POST, up_to(4)),
+        exhaustive(Operation::POST, "posts", pieces::POST, up_to(5)),
         exhaustive(Operation::POST, "posts of joined tags", pieces::POST_JOINED, up_to(4)),
         days(),
-        family("random posts, all passes", Sort::Random, times(40_000, 300_000), move |number| {
+        family("random posts, all passes", Sort::Random, times(100_000, 400_000), move |number| {
             let mut draws = draws(1, number);
             let room = [6, 15, 40, 150][draws.below(4)];
             (PASSES.to_vec(), grammar::post(&mut draws, room))
         }),
-        family("random attributions", Sort::Random, times(30_000, 300_000), move |number| {
+        family("random attributions", Sort::Random, times(200_000, 1_000_000), move |number| {
             (vec![Operation::ATTRIBUTION], grammar::attribution(&mut draws(2, number)))
         }),
         family("random depths around 64", Sort::Random, times(600, 5_000), move |number| (PASSES.to_vec(), deep(&mut draws(3, number)))),
@@ -197,7 +199,7 @@ pub fn families(extent: Extent, seed: u64) -> Vec<Family> {
             let size = if (number as usize) < REPEATED.len() { 8_192 } else { 40_000 };
             (PASSES.to_vec(), repeated(which, size))
         }),
-        family("long posts", Sort::Long, times(16, 100), move |number| {
+        family("long posts", Sort::Long, times(40, 120), move |number| {
             let mut draws = draws(5, number);
             let size = match number % 4 {
                 0 => MAX_TEXT,

@@ -2,7 +2,7 @@
 
 use crate::judge::{Operation, Sizes};
 use crate::pieces::Draws;
-use carve::{Lent, Record};
+use carve::{Converter, Lent, Record};
 
 /// Elements in a guard.
 const GUARD: usize = 8;
@@ -41,8 +41,9 @@ impl<T: Copy + Default + PartialEq> Guarded<T> {
     }
 }
 
-/// What a call is lent, kept from call to call.
+/// What a call is lent, kept from call to call; and the wrapper with memory of its own.
 pub struct Memory {
+    pub converter: Converter,
     text: Guarded<u8>,
     out: Guarded<u8>,
     origins: Guarded<u32>,
@@ -70,6 +71,7 @@ const AROUND: [u8; 8] = *b"[/b]\n*]1";
 impl Default for Memory {
     fn default() -> Memory {
         Memory {
+            converter: Converter::new(),
             text: Guarded::new(),
             out: Guarded::new(),
             origins: Guarded::new(),

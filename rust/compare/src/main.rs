@@ -87,10 +87,11 @@ fn run(extent: Extent, seed: u64, threads: u64) -> ExitCode {
         let from = Instant::now();
         let (tally, found) = compare(&family, seed, threads);
         println!(
-            "{}: {} texts in {} calls, {} differences, {:.1} s",
+            "{}: {} texts in {} calls, {} of them done, {} differences, {:.1} s",
             family.name,
             family.count,
             tally.calls,
+            tally.numbers[0],
             found.len(),
             from.elapsed().as_secs_f64()
         );

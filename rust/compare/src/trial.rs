@@ -1,10 +1,13 @@
 //! One text tried: calls at the sizes that tell, each held to the answer that document 01 gives.
 
 use crate::guarded::{Left, Memory};
-use crate::judge::{Answer, Operation, Sizes, Step};
+use crate::judge::{Answer, Loss, Operation, Sizes, Step};
 use crate::model;
 use crate::pieces::Draws;
-use carve::Record;
+use carve::{Converter, Record, Refusal, MAX_OUT};
+
+/// A text that is also tried with the longest output there may be, and with one byte more, which is refused.
+pub const WITH_LONGEST_OUTPUT: &str = "[list][*]the longest output[/list]";
 
 /// What the calls have met so far.
 #[derive(Default, Clone)]
@@ -59,7 +62,8 @@ fn hold(answer: &Answer, number: u32, left: &Left) -> Result<(), String> {
 }
 
 /// Sizes that tell: all exact; all roomy; each need and each lent size one short; several short at once, for the order of the refusals.
-fn sizes(operation: Operation, n: usize, answer: &Answer, draws: &mut Draws) -> Vec<Sizes> {
+fn sizes(operation: Operation, text: &str, answer: &Answer, draws: &mut Draws) -> Vec<Sizes> {
+    let n = text.len();
     let (losses, loss_bytes) = (answer.losses.len(), answer.loss_bytes());
     let least = |m: usize, losses: usize, loss_bytes: usize| Sizes::least(operation, n, m, losses, loss_bytes);
     if operation == Operation::Day {
@@ -122,6 +126,9 @@ fn sizes(operation: Operation, n: usize, answer: &Answer, draws: &mut Draws) -> 
     let mut two = least(draws.below(need + 1), losses.saturating_sub(draws.below(2)), loss_bytes.saturating_sub(draws.below(2)));
     shorter(&mut two, draws.below(4));
     all.push(two);
+    if text == WITH_LONGEST_OUTPUT {
+        all.extend([MAX_OUT, MAX_OUT + 1].map(|m| least(m, losses, loss_bytes)));
+    }
     all
 }
 
@@ -138,10 +145,48 @@ fn spoilt(text: &str, draws: &mut Draws) -> Vec<Vec<u8>> {
     vec![with(&[b"\0"]), with(&[b"\r"]), with(&[b"\xFF"]), with(&[b"\xED\xA0\x80"]), with(&[b"\r", b"\xC3"])]
 }
 
+/// The wrapper, which finds the sizes itself, held to the same answer.
+fn hold_wrapped(operation: Operation, text: &str, answer: &Answer, converter: &mut Converter) -> Result<(), String> {
+    let Operation::OnText(on_text) = operation else {
+        let day = if answer.steps.is_empty() { Ok(String::from_utf8_lossy(&answer.text).into_owned()) } else { Err(Refusal::NotSeconds) };
+        return if carve::day(text.as_bytes()) == day { Ok(()) } else { Err("the wrapper's day is another".to_string()) };
+    };
+    let most = Sizes::least(operation, text.len(), MAX_OUT, answer.losses.len(), answer.loss_bytes());
+    let refusal = Refusal::from_number(answer.number(operation, text.as_bytes(), &most));
+    let bytes = text.as_bytes();
+    let converted = match on_text {
+        carve::Operation::Post => converter.convert(bytes),
+        carve::Operation::Quotes => converter.quotes(bytes),
+        carve::Operation::Lists => converter.lists(bytes),
+        carve::Operation::Attribution => converter.attribution(bytes),
+        carve::Operation::Marks => match converter.marks(bytes) {
+            Ok(marked) if !marked.spans.iter().flat_map(|&(start, end)| [start as u32, end as u32]).eq(answer.spans.iter().copied()) => {
+                return Err(format!("the wrapper's spans are {:?}", marked.spans))
+            }
+            Ok(marked) => Ok(carve::Converted { text: marked.text, origins: marked.origins, losses: vec![] }),
+            Err(refusal) => Err(refusal),
+        },
+    };
+    match (converted, refusal) {
+        (Err(found), Some(refusal)) if found == refusal => Ok(()),
+        (Ok(found), None) => {
+            compare("the wrapper's text", &answer.text, found.text.as_bytes())?;
+            compare("the wrapper's origins", &answer.origins, &found.origins)?;
+            let losses: Vec<Loss> = found.losses.into_iter().map(|loss| (loss.quote, loss.line, loss.unnamed, loss.field)).collect();
+            if found.text.len() != answer.text.len() || found.origins.len() != answer.origins.len() || losses != answer.losses {
+                return Err(format!("the wrapper's losses are {losses:?}, or its text is too short"));
+            }
+            Ok(())
+        }
+        (found, refusal) => Err(format!("the wrapper answers {:?} and not {refusal:?}", found.err())),
+    }
+}
+
 /// Tries one text. An error says what differs, at which sizes.
 pub fn check(operation: Operation, text: &str, memory: &mut Memory, seed: u64, tally: &mut Tally) -> Result<(), String> {
     let mut draws = Draws::of(seed, text.as_bytes());
     let answer = Answer::of(operation, text)?;
+    hold_wrapped(operation, text, &answer, &mut memory.converter)?;
     tally.trials += 1;
     tally.losses += answer.losses.len() as u64;
     tally.marks += answer.spans.len() as u64 / 2;
@@ -157,7 +202,7 @@ pub fn check(operation: Operation, text: &str, memory: &mut Memory, seed: u64, t
         }
         Ok::<(), String>(())
     };
-    for sizes in sizes(operation, text.len(), &answer, &mut draws) {
+    for sizes in sizes(operation, text, &answer, &mut draws) {
         call(text.as_bytes(), &answer, &sizes, &mut draws)?;
     }
     if operation != Operation::Day {
