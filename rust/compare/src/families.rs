@@ -161,26 +161,25 @@ fn days() -> Family {
 
 pub fn families(extent: Extent, seed: u64) -> Vec<Family> {
     let long = extent == Extent::Long;
-    // One piece more in the long run.
-    let up_to = |gate: u32| gate + u32::from(long);
+    let up_to = |gate: u32, many: u32| if long { many } else { gate };
     let times = |gate: u64, many: u64| if long { many } else { gate };
     let draws = move |family: u64, number: u64| Draws::at(seed.wrapping_add(family << 56), number);
     vec![
         family("readings of document 01", Sort::Short, READINGS.len() as u64, |number| {
             (Operation::ALL.to_vec(), READINGS[number as usize].to_string())
         }),
-        exhaustive(Operation::MARKS, "marks", pieces::MARKS, up_to(5)),
-        exhaustive(Operation::MARKS, "marks of the other kinds", pieces::MARKS_OTHER, up_to(5)),
-        exhaustive(Operation::QUOTES, "quotes", pieces::QUOTES, up_to(5)),
-        exhaustive(Operation::QUOTES, "quotes that break", pieces::QUOTES_BROKEN, up_to(4)),
-        exhaustive(Operation::LISTS, "lists", pieces::LISTS, up_to(6)),
-        exhaustive(Operation::LISTS, "list values", pieces::LISTS_VALUES, up_to(5)),
-        exhaustive(Operation::ATTRIBUTION, "attributions", pieces::ATTRIBUTION, up_to(5)),
-        exhaustive(Operation::ATTRIBUTION, "attributions, other parts", pieces::ATTRIBUTION_OTHER, up_to(4)),
-        exhaustive(Operation::POST, "posts", pieces::POST, up_to(5)),
-        exhaustive(Operation::POST, "posts of joined tags", pieces::POST_JOINED, up_to(4)),
+        exhaustive(Operation::MARKS, "marks", pieces::MARKS, up_to(5, 6)),
+        exhaustive(Operation::MARKS, "marks of the other kinds", pieces::MARKS_OTHER, 5),
+        exhaustive(Operation::QUOTES, "quotes", pieces::QUOTES, 5),
+        exhaustive(Operation::QUOTES, "quotes that break", pieces::QUOTES_BROKEN, up_to(4, 5)),
+        exhaustive(Operation::LISTS, "lists", pieces::LISTS, 6),
+        exhaustive(Operation::LISTS, "list values", pieces::LISTS_VALUES, 5),
+        exhaustive(Operation::ATTRIBUTION, "attributions", pieces::ATTRIBUTION, 5),
+        exhaustive(Operation::ATTRIBUTION, "attributions, other parts", pieces::ATTRIBUTION_OTHER, up_to(4, 5)),
+        exhaustive(Operation::POST, "posts", pieces::POST, 5),
+        exhaustive(Operation::POST, "posts of joined tags", pieces::POST_JOINED, up_to(4, 5)),
         days(),
-        family("random posts, all passes", Sort::Random, times(100_000, 400_000), move |number| {
+        family("random posts, all passes", Sort::Random, times(100_000, 300_000), move |number| {
             let mut draws = draws(1, number);
             let room = [6, 15, 40, 150][draws.below(4)];
             (PASSES.to_vec(), grammar::post(&mut draws, room))
@@ -188,7 +187,7 @@ pub fn families(extent: Extent, seed: u64) -> Vec<Family> {
         family("random attributions", Sort::Random, times(200_000, 1_000_000), move |number| {
             (vec![Operation::ATTRIBUTION], grammar::attribution(&mut draws(2, number)))
         }),
-        family("random depths around 64", Sort::Random, times(600, 5_000), move |number| (PASSES.to_vec(), deep(&mut draws(3, number)))),
+        family("random depths around 64", Sort::Random, times(600, 3_000), move |number| (PASSES.to_vec(), deep(&mut draws(3, number)))),
         family("random days", Sort::Random, times(20_000, 200_000), move |number| {
             let mut draws = draws(4, number);
             let text = (0..draws.below(14)).map(|_| draws.pick(&["0", "1", "9", "5", "7", "3", "0", "2", "8", "4"])).collect::<String>();

@@ -274,4 +274,13 @@ mod tests {
             assert!(text.len() <= size && text.len() + 3 >= size);
         }
     }
+
+    #[test]
+    fn most_long_posts_are_not_too_deep() {
+        let deep = |number: u64| {
+            let post = crate::model::post(&long(&mut Draws::at(2, number), 262_144).replace('ſ', "s"));
+            post.quotes.too_deep || post.lists.too_deep
+        };
+        assert!((0..8).filter(|&number| deep(number)).count() <= 4);
+    }
 }
