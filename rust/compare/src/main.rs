@@ -102,7 +102,7 @@ fn run(extent: Extent, seed: u64, threads: u64) -> ExitCode {
             break;
         }
     }
-    for difference in &differences {
+    for difference in differences.iter().take(ENOUGH) {
         show(difference, seed);
     }
     println!("answers by number: {}", all.numbers.iter().enumerate().map(|(i, n)| format!("{i}: {n}")).collect::<Vec<_>>().join(", "));
