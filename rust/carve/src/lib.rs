@@ -12,6 +12,8 @@
 //!
 //! `rt staticlib carve` writes the archive that this crate links, target/staticlib/libcarve.a of the repository.
 
+#![warn(missing_docs)]
+
 mod converter;
 mod lent;
 mod raw;
