@@ -249,9 +249,6 @@ pub fn long(draws: &mut Draws, size: usize) -> String {
         out.push_str(&"[/quote]".repeat(draws.below(3)));
         out.push_str(&"[/list]".repeat(draws.below(3)));
     }
-    while !out.is_char_boundary(size.min(out.len())) {
-        out.pop();
-    }
     let end = (0..=size.min(out.len())).rev().find(|&end| out.is_char_boundary(end)).unwrap_or(0);
     out.truncate(end);
     out

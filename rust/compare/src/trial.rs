@@ -72,16 +72,16 @@ fn sizes(operation: Operation, text: &str, answer: &Answer, draws: &mut Draws) -
     let need = answer.need();
     let exact = least(need, losses, loss_bytes);
     let mut all = vec![exact];
-    let roomy = least(need + draws.below(40), losses + draws.below(4), loss_bytes + draws.below(9));
-    let more = |lent: bool, size: usize, draws: &mut Draws| if lent { size + draws.below(9) } else { 0 };
+    let roomy = least(need + draws.below(40), losses, loss_bytes);
+    let mut more = |lent: bool, size: usize| if lent { size + draws.below(9) } else { 0 };
     all.push(Sizes {
-        origins: roomy.origins + draws.below(9),
-        spans: more(operation.lent_spans(), roomy.spans, draws),
-        records: more(operation.lent_records(), losses, draws),
-        loss_bytes: more(operation.lent_records(), loss_bytes, draws),
-        work: roomy.work + draws.below(9),
-        numbers: roomy.numbers + draws.below(9),
-        ..roomy
+        out: roomy.out,
+        origins: more(true, roomy.origins),
+        spans: more(operation.lent_spans(), roomy.spans),
+        records: more(operation.lent_records(), losses),
+        loss_bytes: more(operation.lent_records(), loss_bytes),
+        work: more(true, roomy.work),
+        numbers: more(true, roomy.numbers),
     });
     let mut needs: Vec<usize> = answer.steps.iter().filter_map(|step| if let Step::Need(need) = step { Some(*need) } else { None }).collect();
     needs.sort_unstable();
@@ -106,7 +106,7 @@ fn sizes(operation: Operation, text: &str, answer: &Answer, draws: &mut Draws) -
             all.push(least(0, losses, loss_bytes - 1));
         }
     }
-    // Any one short, and any one or two.
+    // Each lent size one short, and any of them with what is refused behind it.
     let shorter = |sizes: &mut Sizes, which: usize| {
         let size = match which {
             0 => &mut sizes.origins,
@@ -123,9 +123,9 @@ fn sizes(operation: Operation, text: &str, answer: &Answer, draws: &mut Draws) -
             all.push(one);
         }
     }
-    let mut two = least(draws.below(need + 1), losses.saturating_sub(draws.below(2)), loss_bytes.saturating_sub(draws.below(2)));
-    shorter(&mut two, draws.below(4));
-    all.push(two);
+    let mut several = least(draws.below(need + 1), losses.saturating_sub(draws.below(2)), loss_bytes.saturating_sub(draws.below(2)));
+    shorter(&mut several, draws.below(4));
+    all.push(several);
     if text == WITH_LONGEST_OUTPUT {
         all.extend([MAX_OUT, MAX_OUT + 1].map(|m| least(m, losses, loss_bytes)));
     }
