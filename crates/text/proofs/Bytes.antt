@@ -1,5 +1,5 @@
 -- Laws of reading bytes: ranges, words, and the loops that look for a byte. Assumes nothing.
-use mathlib.Core.Path.{_≡_, refl, sym, ap, _∙_}
+use mathlib.Core.Path.{_≡_, refl, sym, ap, subst, _∙_}
 use Prim.Native.Nat.{ℕ, zero, suc, _+_, _-_, _≤_, _<_}
 use native.Mathlib.Nat.{le-of-suc-le-suc, not-suc-le-zero}
 use native.Mathlib.Numerals.{add-one}
@@ -92,7 +92,7 @@ first-stops p (b ∷ s) h = by (p b) refl h (first-stops p s)
     by true e lt k = e
     by false e lt k = k (le-of-suc-le-suc lt)
 
-ltb-suc : (a b : ℕ) → ltb (suc a) (suc b) ≡ ltb a b
+pub ltb-suc : (a b : ℕ) → ltb (suc a) (suc b) ≡ ltb a b
 ltb-suc a b = by (ltb a b) refl
   where
     by : (t : Bool) → ltb a b ≡ t → ltb (suc a) (suc b) ≡ t
@@ -125,7 +125,7 @@ stands-turn p s i k stands h e =
     let n : k < length (drop i s) = rw (length-drop i s) (omega arith) in
     rw (e, sym d, add-one) (sym (first-before p (drop i s) k n))
 
-first-past : (p : ℕ → Bool) (s : List ℕ) (n : ℕ) → n ≤ toFirst p s → n + toFirst p (drop n s) ≡ toFirst p s
+pub first-past : (p : ℕ → Bool) (s : List ℕ) (n : ℕ) → n ≤ toFirst p s → n + toFirst p (drop n s) ≡ toFirst p s
 unfolding toFirst
 first-past p s zero h = omega arith
 first-past p [] (suc n) h = absurd (not-suc-le-zero h)
@@ -141,3 +141,14 @@ look-past p s at i n l le h =
     let e = first-past p (drop i s) n h in
     let d : toFirst p (drop n (drop i s)) ≡ toFirst p (drop (i + n) s) = ap (toFirst p) (drop-drop n i s) in
     record { inside = le; ends = omega (arith, e, d, l .ends) }
+
+-- what stands before it ends
+pub first-plain : (p : ℕ → Bool) (s : List ℕ) (i : ℕ) → i < length s → 1 ≤ toFirst p (drop i s) → p (getD s i 0) ≡ false
+unfolding toFirst
+first-plain p s i lt h = by (p (getD s i 0)) refl
+  where
+    by : (t : Bool) → p (getD s i 0) ≡ t → p (getD s i 0) ≡ false
+    by false e = e
+    by true e =
+        let z : toFirst p (drop i s) ≡ 0 = rw (drop-cons s i 0 lt, e) in
+        absurd (not-suc-le-zero (subst (λ (n : ℕ). 1 ≤ n) z h))
