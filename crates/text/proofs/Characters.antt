@@ -74,3 +74,18 @@ utf8-ascii s (suc n) i le h =
     let one : 1 ≡ charSize (drop i s) = sym (char-at s i ∙ ascii-size (getD s i 0) (getD s (i + 1) 0) (getD s (i + 2) 0) (getD s (i + 3) 0) a) in
     let e : i + 1 + n ≡ i + suc n = omega arith in
     utf8-turn s i 1 lt one (λ z. omega (arith, z)) ∙ utf8-ascii s n (i + 1) (omega arith) (omega (arith, f)) ∙ ap (λ (k : ℕ). utf8 (drop k s)) e
+
+ascii-width : (a b c : ℕ) → a < 128 → blankWidth a b c ≡ cond (blank1 a) 1 0
+unfolding blankWidth blank2 blank3
+ascii-width a b c h =
+    rw (ne-eqb a 0xC2 (λ (p : a ≡ 0xC2). omega arith), ne-eqb a 0xE1 (λ (p : a ≡ 0xE1). omega arith), ne-eqb a 0xE2 (λ (p : a ≡ 0xE2). omega arith), ne-eqb a 0xE3 (λ (p : a ≡ 0xE3). omega arith))
+
+pub ascii-blank : (s : List ℕ) (i : ℕ) → getD s i 0 < 128 → blankSize (drop i s) ≡ cond (blank1 (getD s i 0)) 1 0
+ascii-blank s i h = blank-at s i ∙ ascii-width (getD s i 0) (getD s (i + 1) 0) (getD s (i + 2) 0) h
+
+-- one of n ASCII bytes
+pub ascii-at : (s : List ℕ) (i k n : ℕ) → k < n → i + n ≤ length s → n ≤ toFirst (leb 128) (drop i s) → getD s (i + k) 0 < 128
+ascii-at s i k n lt le h =
+    let f : toFirst (leb 128) (drop i s) ≡ k + toFirst (leb 128) (drop (i + k) s) =
+    sym (first-past (leb 128) (drop i s) k (omega arith)) ∙ ap (λ (l : List ℕ). k + toFirst (leb 128) l) (drop-drop k i s) in
+    leb-false 128 (getD s (i + k) 0) (first-plain (leb 128) s (i + k) (omega arith) (omega (arith, f)))
