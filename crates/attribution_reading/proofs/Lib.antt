@@ -2,3 +2,4 @@ pub mod Laws
 pub mod Suffix
 pub mod Fielding
 pub mod Texts
+pub mod Meet

@@ -1,7 +1,7 @@
 // What an attribution says: its first usable fields, its leading id, its last text and the split of it.
+use crate::reader::read_part;
 use crate::scan::Place;
 use crate::scan::first_at;
-use crate::scan::scan_at;
 use attribution_parts::Kind;
 use day::all_digits;
 use text::PostAt;
@@ -131,7 +131,7 @@ fn first_field(s: &[u8], k: Kind) -> Field
     let mut i: usize = 0;
     let mut at = first_at(s);
     while at < s.len() {
-        let p = scan_at(s, at);
+        let p = read_part(s, at);
         if counts_as(s, p, k) {
             return Field {
                 from: p.from,
@@ -187,7 +187,7 @@ pub fn leading_id(s: &[u8]) -> Lead
 {
     let at = first_at(s);
     if at < s.len() {
-        let p = scan_at(s, at);
+        let p = read_part(s, at);
         if is_leading(s, p) {
             return Lead {
                 from: p.from,
@@ -245,7 +245,7 @@ fn last_text(s: &[u8], count: usize, start: usize) -> Last
         total: 0,
     };
     while at < s.len() {
-        let p = scan_at(s, at);
+        let p = read_part(s, at);
         last = with_part(s, last, p, i);
         i += 1;
         at = p.next;
