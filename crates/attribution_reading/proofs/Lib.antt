@@ -3,3 +3,4 @@ pub mod Suffix
 pub mod Fielding
 pub mod Texts
 pub mod Meet
+pub mod LocalReader

@@ -1,5 +1,7 @@
 // What an attribution says: its first usable fields, its leading id, its last text and the split of it.
+use crate::reader::next_part;
 use crate::reader::read_part;
+use crate::reader::reader_at;
 use crate::scan::Place;
 use crate::scan::first_at;
 use attribution_parts::Kind;
@@ -237,18 +239,17 @@ fn last_text(s: &[u8], count: usize, start: usize) -> Last
     ensures { λ r. ⌜ LastAt (now (s .entry)) count r ⌝ }
 {
     let mut i = count;
-    let mut at = start;
     let mut last = Last {
         from: 0,
         size: 0,
         end: 0,
         total: 0,
     };
-    while at < s.len() {
-        let p = read_part(s, at);
+    let mut reader = reader_at(s, start);
+    while reader.next < s.len() {
+        let p = next_part(&mut reader);
         last = with_part(s, last, p, i);
         i += 1;
-        at = p.next;
     }
     last
 }
