@@ -127,13 +127,15 @@ fn counts_as(s: &[u8], p: Place, k: Kind) -> bool
     false
 }
 
-fn first_field(s: &[u8], k: Kind) -> Field
+// The first usable field of a kind, where the first part begins at `start`.
+fn first_field(s: &[u8], start: usize, k: Kind) -> Field
+    requires { ⌜ Stands (now s) 0 start ⌝ }
     ensures { λ r. ⌜ FieldAt (now (s .entry)) k r ⌝ }
 {
     let mut i: usize = 0;
-    let mut at = first_at(s);
-    while at < s.len() {
-        let p = read_part(s, at);
+    let mut reader = reader_at(s, start);
+    while reader.next < s.len() {
+        let p = next_part(&mut reader);
         if counts_as(s, p, k) {
             return Field {
                 from: p.from,
@@ -142,7 +144,6 @@ fn first_field(s: &[u8], k: Kind) -> Field
             };
         }
         i += 1;
-        at = p.next;
     }
     Field {
         from: 0,
@@ -154,11 +155,12 @@ fn first_field(s: &[u8], k: Kind) -> Field
 pub fn read_fields(s: &[u8]) -> Fields
     ensures { λ r. ⌜ FieldsAt (now (s .entry)) r ⌝ }
 {
-    let name = first_field(s, Kind::Name);
-    let post = first_field(s, Kind::PostId);
-    let id = first_field(s, Kind::Id);
-    let date = first_field(s, Kind::Date);
-    let time = first_field(s, Kind::Time);
+    let start = first_at(s);
+    let name = first_field(s, start, Kind::Name);
+    let post = first_field(s, start, Kind::PostId);
+    let id = first_field(s, start, Kind::Id);
+    let date = first_field(s, start, Kind::Date);
+    let time = first_field(s, start, Kind::Time);
     Fields {
         name: name,
         post: post,
