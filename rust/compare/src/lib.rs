@@ -1,3 +1,10 @@
-//! What the comparison is made of: the passes over cells in plain Rust, and pieces that posts are made of.
+//! The library beside the Rust original: texts (`families`, `grammar`, `pieces`), what document 01 has an operation answer on each (`judge`, `model`),
+//! and the calls that are held to it (`guarded`, `trial`).
+pub mod families;
+pub mod grammar;
+pub mod guarded;
+pub mod judge;
 pub mod model;
 pub mod pieces;
+pub mod shrink;
+pub mod trial;

@@ -48,8 +48,20 @@ fn begins(x: &[Cell], word: &str) -> bool {
     x.len() >= word.len() && x.iter().zip(word.bytes()).all(|(c, b)| c.byte.to_ascii_lowercase() == b)
 }
 
-fn bracket(x: &[Cell]) -> Option<usize> {
-    x.iter().position(|c| c.byte == b']')
+/// Of each place the first `]` at it or behind it.
+fn brackets(x: &[Cell]) -> Vec<Option<usize>> {
+    let mut found = None;
+    let mut out: Vec<Option<usize>> = x
+        .iter()
+        .enumerate()
+        .rev()
+        .map(|(i, c)| {
+            found = if c.byte == b']' { Some(i) } else { found };
+            found
+        })
+        .collect();
+    out.reverse();
+    out
 }
 
 fn trim_end(x: &[Cell]) -> &[Cell] {
@@ -141,15 +153,17 @@ fn parse(x: &[Cell], taken: &mut Text) -> Vec<Item> {
         from = i;
     }
     frames.last_mut().expect("the root").items.push(Item::Text(x[from..].to_vec()));
-    while frames.len() > 1 {
-        let frame = frames.pop().expect("an open mark");
-        let around = frames.last_mut().expect("the root");
-        around.items.push(Item::Text(frame.tag));
-        around.items.extend(frame.items);
-    }
     taken.extend(openers.iter().flatten());
     taken.sort_by_key(|c| c.origin);
-    frames.pop().expect("the root").items
+    // An opener that is never closed is text, and what follows it belongs to the outermost slot.
+    let mut items = Vec::new();
+    for (depth, frame) in frames.into_iter().enumerate() {
+        if depth > 0 {
+            items.push(Item::Text(frame.tag));
+        }
+        items.extend(frame.items);
+    }
+    items
 }
 
 fn merge(items: Vec<Item>, open: &mut Vec<u8>) -> Vec<Item> {
@@ -196,11 +210,16 @@ fn escape_last(x: &mut Text) {
 fn write(items: &[Item], spans: &mut Vec<(usize, usize)>, at: usize) -> Text {
     let mut out = Text::new();
     let mut guarded = false;
-    for (i, item) in items.iter().enumerate() {
-        let next = items[i + 1..].iter().find_map(|item| match item {
+    // Of each item what is written next: whether it is a mark, and its first byte.
+    let mut nexts = vec![None; items.len()];
+    for (i, item) in items.iter().enumerate().skip(1).rev() {
+        let first = match item {
             Item::Text(t) => t.first().map(|c| (false, c.byte)),
             Item::Mark(_, inside) => content(inside).then_some((true, b'{')),
-        });
+        };
+        nexts[i - 1] = first.or(nexts[i]);
+    }
+    for (item, next) in items.iter().zip(nexts) {
         match item {
             Item::Text(t) if t.is_empty() => {}
             Item::Text(t) => {
@@ -240,11 +259,7 @@ fn write(items: &[Item], spans: &mut Vec<(usize, usize)>, at: usize) -> Text {
                 if last == b'{' {
                     escape_last(&mut body);
                 }
-                let (open, close) = if braced {
-                    (vec![b'{', d], vec![d, b'}'])
-                } else {
-                    (vec![d], vec![d])
-                };
+                let (open, close) = if braced { (vec![b'{', d], vec![d, b'}']) } else { (vec![d], vec![d]) };
                 let start = at + out.len();
                 for span in &mut spans[own + 1..] {
                     span.0 += start + open.len();
@@ -273,11 +288,12 @@ pub fn marks(x: &[Cell]) -> (Pass, Vec<(usize, usize)>) {
 
 // ---- quotes
 
-fn quote_opener(x: &[Cell]) -> Option<(usize, std::ops::Range<usize>)> {
-    if begins(x, "[quote]") {
-        Some((7, 0..0))
-    } else if begins(x, "[quote=") || begins(x, "[quote ") {
-        bracket(x).map(|b| (b + 1, 7..b))
+/// The end of the opener at `i`, and where its attribution stands.
+fn quote_opener(x: &[Cell], brackets: &[Option<usize>], i: usize) -> Option<(usize, std::ops::Range<usize>)> {
+    if begins(&x[i..], "[quote]") {
+        Some((i + 7, i..i))
+    } else if begins(&x[i..], "[quote=") || begins(&x[i..], "[quote ") {
+        brackets[i].map(|b| (b + 1, i + 7..b))
     } else {
         None
     }
@@ -306,34 +322,44 @@ fn quote_block(content: &[Cell], caption: &str) -> Text {
 }
 
 pub fn quotes(x: &[Cell]) -> Pass {
+    let brackets = brackets(x);
     let mut contents = vec![Text::new()];
     let mut captions: Vec<String> = Vec::new();
     let mut pass = Pass { text: Text::new(), taken: Text::new(), need: 0, too_deep: false };
+    // All open contents together.
+    let mut held = 0;
+    fn close(contents: &mut Vec<Text>, caption: &str) -> (usize, usize) {
+        let content = contents.pop().expect("an open quote's content");
+        let block = quote_block(&content, caption);
+        contents.last_mut().expect("the outermost").extend(&block);
+        (content.len(), block.len())
+    }
     let mut i = 0;
     while i < x.len() {
-        if let Some((size, attribution)) = quote_opener(&x[i..]) {
+        if let Some((end, attribution)) = quote_opener(x, &brackets, i) {
             pass.too_deep |= captions.len() >= 64;
-            pass.taken.extend(&x[i..i + size]);
-            captions.push(oracle::attribution(&string(&x[i..][attribution])).0);
+            pass.taken.extend(&x[i..end]);
+            captions.push(oracle::attribution(&string(&x[attribution])).0);
             contents.push(Text::new());
-            i += size;
+            i = end;
         } else if begins(&x[i..], "[/quote]") {
             pass.taken.extend(&x[i..i + 8]);
             if let Some(caption) = captions.pop() {
-                let content = contents.pop().expect("an open quote's content");
-                contents.last_mut().expect("the outermost").extend(quote_block(&content, &caption));
+                let (content, block) = close(&mut contents, &caption);
+                held = held - content + block;
             }
             i += 8;
         } else {
             contents.last_mut().expect("the outermost").push(x[i]);
+            held += 1;
             i += 1;
         }
-        pass.need = pass.need.max(contents.iter().map(Vec::len).sum());
+        pass.need = pass.need.max(held);
     }
     while let Some(caption) = captions.pop() {
-        let content = contents.pop().expect("an open quote's content");
-        contents.last_mut().expect("the outermost").extend(quote_block(&content, &caption));
-        pass.need = pass.need.max(contents.iter().map(Vec::len).sum());
+        let (content, block) = close(&mut contents, &caption);
+        held = held - content + block;
+        pass.need = pass.need.max(held);
     }
     pass.text = contents.pop().expect("the outermost");
     pass
@@ -349,16 +375,21 @@ struct List {
     siblings: usize,
 }
 
-fn list_opener(x: &[Cell]) -> Option<(usize, bool)> {
-    if begins(x, "[list]") {
+/// The size of the opener at `i`, and whether the list is ordered.
+fn list_opener(x: &[Cell], brackets: &[Option<usize>], i: usize) -> Option<(usize, bool)> {
+    if begins(&x[i..], "[list]") {
         return Some((6, false));
     }
-    if !begins(x, "[list=") {
+    if !begins(&x[i..], "[list=") {
         return None;
     }
-    let end = bracket(x)?;
-    let value = trim(&x[6..end]);
-    (value.len() == 1 && value[0].byte == b'1').then_some((end + 1, true))
+    let end = brackets[i]?;
+    // A value has no more than one cell that is not blank, so that its first two tell.
+    if x[i + 6..end].iter().filter(|c| !c.blank).take(2).count() != 1 {
+        return None;
+    }
+    let value = trim(&x[i + 6..end]);
+    (value.len() == 1 && value[0].byte == b'1').then_some((end + 1 - i, true))
 }
 
 fn trim_item(x: &[Cell]) -> Text {
@@ -404,37 +435,36 @@ fn list_block(list: &List) -> Text {
 }
 
 pub fn lists(x: &[Cell]) -> Pass {
+    let brackets = brackets(x);
     let mut root = Text::new();
     let mut root_lists = 0;
     let mut open: Vec<List> = Vec::new();
     let mut pass = Pass { text: Text::new(), taken: Text::new(), need: 0, too_deep: false };
-    fn close(root: &mut Text, open: &mut Vec<List>) {
+    // The outermost text and all parts of open lists together.
+    let mut held = 0;
+    fn close(root: &mut Text, open: &mut Vec<List>, held: &mut usize) {
         let list = open.pop().expect("an open list");
+        *held -= list.parts.iter().map(Vec::len).sum::<usize>();
         let block = list_block(&list);
-        match open.last_mut() {
-            None => {
-                root.extend(written("\n\n"));
-                root.extend(block);
-                root.extend(written("\n\n"));
-            }
+        let (into, before, behind) = match open.last_mut() {
+            None => (root, "\n\n", "\n\n"),
             Some(parent) => {
                 let is_item = parent.parts.len() > 1;
                 let part = parent.parts.last_mut().expect("the lead");
-                if is_item && !part.is_empty() && part[part.len() - 1].byte != b'\n' {
-                    part.extend(written("\n"));
-                }
-                part.extend(block);
-                part.extend(written("\n"));
+                let parted = is_item && part.last().is_some_and(|c| c.byte != b'\n');
+                (part, if parted { "\n" } else { "" }, "\n")
             }
-        }
-    }
-    fn held(root: &Text, open: &[List]) -> usize {
-        root.len() + open.iter().flat_map(|l| &l.parts).map(Vec::len).sum::<usize>()
+        };
+        let from = into.len();
+        into.extend(written(before));
+        into.extend(block);
+        into.extend(written(behind));
+        *held += into.len() - from;
     }
     let mut i = 0;
     while i < x.len() {
         let rest = &x[i..];
-        if let Some((size, ordered)) = list_opener(rest) {
+        if let Some((size, ordered)) = list_opener(x, &brackets, i) {
             pass.too_deep |= open.len() >= 64;
             let siblings = open.last_mut().map_or(&mut root_lists, |l| &mut l.siblings);
             let second = *siblings % 2 == 1;
@@ -449,7 +479,7 @@ pub fn lists(x: &[Cell]) -> Pass {
             pass.taken.extend(&rest[..3]);
             i += 3;
         } else if !open.is_empty() && begins(rest, "[/list]") {
-            close(&mut root, &mut open);
+            close(&mut root, &mut open, &mut held);
             pass.taken.extend(&rest[..7]);
             i += 7;
         } else {
@@ -457,13 +487,14 @@ pub fn lists(x: &[Cell]) -> Pass {
                 None => root.push(x[i]),
                 Some(list) => list.parts.last_mut().expect("the lead").push(x[i]),
             }
+            held += 1;
             i += 1;
         }
-        pass.need = pass.need.max(held(&root, &open));
+        pass.need = pass.need.max(held);
     }
     while !open.is_empty() {
-        close(&mut root, &mut open);
-        pass.need = pass.need.max(held(&root, &open));
+        close(&mut root, &mut open, &mut held);
+        pass.need = pass.need.max(held);
     }
     pass.text = root;
     pass
@@ -485,41 +516,40 @@ pub fn post(text: &str) -> Post {
     Post { marks, quotes, lists, taken }
 }
 
-/// Demand 3, cut by cut, of a text with its origins. What is said of each cut is kept in running counts, so it is linear.
+/// Demand 3, cut by cut, of a text with its origins: at each cut copied bytes equal the post's, origins rise strictly, and every post byte that is not
+/// blank, up to the last origin before the cut, is copied before the cut or consumed, never both; uncut this holds for the whole post.
+///
+/// One walk covers each cut. Origins rise, so that a byte behind a cut has a greater origin than all before it: what is copied before the cut, of the
+/// bytes up to its last origin, is what is copied at all. The walk settles the bytes up to each origin when it comes to it, which is what the cut behind
+/// that byte asks for beyond the cut before it; a cut behind a written byte asks for nothing new.
 pub fn demand3(post: &str, text: &[u8], origins: &[u32], taken: &[Cell]) -> Result<(), String> {
     let bytes = post.as_bytes();
     let blank: Vec<bool> = cells_of(post).iter().map(|c| c.blank).collect();
-    let mut consumed = vec![0u32; bytes.len() + 1];
+    let mut consumed = vec![false; bytes.len() + 1];
     for c in taken {
-        consumed[c.origin as usize] += 1;
+        consumed[c.origin as usize] = true;
     }
-    let settled = |p: usize, copied: bool| -> Result<(), String> {
-        let is_consumed = consumed[p + 1] > 0;
-        if !blank[p] && copied == is_consumed {
-            return Err(format!("post byte {p} is copied: {copied}, consumed: {is_consumed}"));
+    let settled = |p: usize, copied: bool| {
+        if !blank[p] && copied == consumed[p + 1] {
+            return Err(format!("post byte {p} is copied: {copied}, consumed: {}", consumed[p + 1]));
         }
         Ok(())
     };
-    let mut last = 0usize;
+    let mut last = 0;
     for (k, (&byte, &origin)) in text.iter().zip(origins).enumerate() {
         let origin = origin as usize;
         if origin == 0 {
             continue;
         }
-        if origin > bytes.len() || bytes[origin - 1] != byte {
-            return Err(format!("byte {k} is not the post's byte {}", origin - 1));
+        if bytes.get(origin - 1) != Some(&byte) {
+            return Err(format!("byte {k} of the text is not the post's byte {}", origin - 1));
         }
         if origin <= last {
-            return Err(format!("the origin of byte {k} does not rise"));
+            return Err(format!("the origin of byte {k} of the text does not rise"));
         }
-        for p in last..origin - 1 {
-            settled(p, false)?;
-        }
+        (last..origin - 1).try_for_each(|p| settled(p, false))?;
         settled(origin - 1, true)?;
         last = origin;
     }
-    for p in last..bytes.len() {
-        settled(p, false)?;
-    }
-    Ok(())
+    (last..bytes.len()).try_for_each(|p| settled(p, false))
 }

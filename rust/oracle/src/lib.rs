@@ -39,6 +39,7 @@ impl MatchLength for regex::Match<'_> {
 include!(concat!(env!("OUT_DIR"), "/original.rs"));
 
 pub use bbcode_migrate::access::*;
+pub use regex::keep as keep_patterns;
 
 #[cfg(test)]
 mod tests {

@@ -1,0 +1,1 @@
+[quote=Ann;7 rank=3]Seed [b]late[/b][/quote]
