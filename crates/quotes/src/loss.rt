@@ -7,6 +7,7 @@ use quote_lines::search::line_of;
 use quote_lines::tag::tag_at;
 use text::PostAt;
 use text::scan::next_bracket;
+use text::scan::next_byte;
 ghost use Prim.Native.Nat.{_≤_, _<_};
 ghost use lib.ListN.{length};
 ghost use Rattle.quote_lines.specs.Tags.{NextBracket};
@@ -81,8 +82,9 @@ fn list_token(
             bytes,
         };
     }
+    let later = next_byte(source, PostAt(i + 1), b'[');
     Listing {
-        at: PostAt(i + 1),
+        at: later,
         bracket,
         quote,
         next,

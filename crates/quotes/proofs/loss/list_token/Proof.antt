@@ -15,6 +15,7 @@ use Rattle.attribution_losses.proofs.loss.put_losses.Reads as put-losses-reads
 use Rattle.quote_lines.proofs.search.attribution_size.Reads as attribution-size-reads
 use Rattle.quote_lines.proofs.search.line_of.Reads as line-of-reads
 use Rattle.quote_lines.proofs.tag.tag_at.Reads as tag-at-reads
+use Rattle.text.proofs.scan.next_byte.Reads as next-byte-reads
 
 tag-at-requires : tie.Need-tag-at-requires
 tag-at-requires c κs = search needs
@@ -70,14 +71,14 @@ put-losses-requires c κs =
     let h = attribution-short (a .args .source .now) (a .args .from .at .0) _ _ (a .pre .0 .0) (c .before .before .before .before .before .before .before .before .tag-at .ensures .1 .0) (c .before .before .before .before .before .before .if1 .taken) (c .before .before .before .before .before .attribution-size .ensures) in
     (omega (arith, h, room .1, a .pre .0 .1), (omega (arith, h, room .1, a .pre .0 .1, a .pre .1 .0 .1 .losses), omega (arith, h, room .1, a .pre .0 .1, a .pre .1 .0 .1 .bytes)))
 
-add-t24 : tie.Need-add-t24
-add-t24 c =
+add-t25 : tie.Need-add-t25
+add-t25 c =
     let a = c .before .before .before .before .before .before .before .before .before .before .before .before .before .before .before .before .before .before .before .before .before in
     let room = opener-room (a .args .source .now) (a .args .from .at .0) _ _ (a .pre .0 .0) (c .before .before .before .before .before .before .before .before .before .before .before .before .before .tag-at .ensures .1 .0) (c .before .before .before .before .before .before .before .before .before .before .before .if1 .taken) (c .before .before .before .before .before .before .before .before .before .before .attribution-size .ensures) in
     omega (arith, room .1, a .pre .0 .1)
 
-add-t37 : tie.Need-add-t37
-add-t37 c =
+add-t38 : tie.Need-add-t38
+add-t38 c =
     let a = c .before .before .before .before .before .before .before .before .before .before .before .before .before .before .before .before .before .before .before .before .before in omega (arith, a .pre .0 .0, a .pre .0 .1, a .pre .1 .0 .1 .quotes)
 
 same-length : tie.Need-same-length
@@ -95,9 +96,9 @@ returns c =
     lists-opener (a .args .source .now) _ _ _ (a .args .from .at .0) _ _ _ _ (a .pre .0 .0) (a .pre .1 .0 .1) _ (c .before .before .before .before .before .before .before .before .before .before .before .before .before .tag-at .ensures .0) _ (c .before .before .before .before .before .before .before .before .before .before .before .before .before .tag-at .ensures .1 .0)
     _ _ _ _ _ _ _ (c .before .before .before .before .before .before .before .before .before .before .before .if1 .taken) (attribution-part (a .args .source .now) (a .args .from .at .0) _ _ (c .before .before .before .before .before .before .before .before .before .before .before .before .before .tag-at .ensures .1 .0) (c .before .before .before .before .before .before .before .before .before .before .attribution-size .ensures)) (omega (arith, h)) (c .before .before .before .before .before .before .before .before .line-of .ensures) (c .before .before .before .before .put-losses .ensures)
 
-add-t38 : tie.Need-add-t38
+add-t39 : tie.Need-add-t39
 unfolding closerSize
-add-t38 c =
+add-t39 c =
     let a = c .before .before .before .before .before .before .before .before .before .before .before in
     let w = behind-within closers (a .args .source .now) (a .args .from .at .0) (omega arith) (c .before .before .before .tag-at .ensures .1 .1) in
     omega (arith, w, a .pre .0 .1)
@@ -108,14 +109,17 @@ returns-2 c =
     let t = c .before .before .before .tag-at .ensures in
     lists-closer (a .args .source .now) _ _ _ (a .args .from .at .0) _ _ _ _ (a .pre .0 .0) (a .pre .1 .0 .1) _ (t .0) _ (t .1 .0) (c .before .if1 .left) _ (t .1 .1) (c .if2 .taken)
 
-add-t40 : tie.Need-add-t40
-add-t40 c = search needs
+add-t41 : tie.Need-add-t41
+add-t41 c = search needs
+
+next-byte-requires : tie.Need-next-byte-requires
+next-byte-requires c κs = search needs
 
 returns-3 : tie.Need-returns-3
 returns-3 c =
-    let a = c .before .before .before .before .before .before .before .before .before .before .before in
-    let t = c .before .before .before .tag-at .ensures in
-    lists-text (a .args .source .now) _ _ _ (a .args .from .at .0) _ _ _ _ (a .pre .0 .0) (a .pre .1 .0 .1) _ (t .0) _ (t .1 .0) (c .before .if1 .left) _ (t .1 .1) (c .if2 .left)
+    let a = c .before .before .before .before .before .before .before .before .before .before .before .before in
+    let t = c .before .before .before .before .tag-at .ensures in
+    lists-text (a .args .source .now) _ _ _ (a .args .from .at .0) _ _ _ _ (a .pre .0 .0) (a .pre .1 .0 .1) _ (t .0) _ (t .1 .0) (c .before .before .if1 .left) _ (t .1 .1) (c .before .if2 .left) (c .next-byte .ensures)
 
 pub list-token-spec : {M : Type 1} → statement M
 list-token-spec =
@@ -134,12 +138,13 @@ list-token-spec =
     part-put-losses-end
     cast-put-losses
     put-losses-requires
-    add-t24
-    add-t37
+    add-t25
+    add-t38
     same-length
     same-length-2
     returns
-    add-t38
+    add-t39
     returns-2
-    add-t40
+    add-t41
+    next-byte-requires
     returns-3)
