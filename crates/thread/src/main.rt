@@ -9,7 +9,6 @@ fn main() {
     let n = io::read_full(STDIN_FILENO, &mut post);
     let mut out = [0u8; 2048];
     let mut origins = [0u32; 2048];
-    let mut records = [0u32; 320];
     let mut loss_bytes = [0u8; 1024];
     let mut work = [0u8; 7168];
     let mut numbers = [0u32; 14400];
@@ -19,7 +18,6 @@ fn main() {
         &post[..n],
         &mut out,
         &mut origins,
-        &mut records,
         &mut loss_bytes,
         &mut work,
         &mut numbers,
