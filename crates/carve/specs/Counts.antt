@@ -2,6 +2,7 @@
 --   dayCounts a             the counts of an answer to a call for a day
 --   listsNumber, listsCounts, marksNumber, marksCounts   document 01's number (0: done) and the counts of an answer to a call for lists, for marks
 --   Countable ns            each of these numbers fits 32 bits
+--   AttributionCountable a, QuotesCountable, PostCountable     those of an answer a do
 --   AttributionReported a r cs, QuotesReported, PostReported   r comes back for an answer a, and `counts` is cs
 --   Reports number counts Called r cs   r comes back and `counts` is cs, as these say of the answer of which Called holds
 --   ListsReport ..          of a call for lists: what comes back, and what the lent slices then hold
