@@ -33,7 +33,7 @@ pub enum Extent {
 const PASSES: [Operation; 4] = [Operation::POST, Operation::MARKS, Operation::QUOTES, Operation::LISTS];
 
 /// Document 01's positions, and the texts by which it can be read in one way only.
-const READINGS: &[&str] = &[
+pub const READINGS: &[&str] = &[
     WITH_LONGEST_OUTPUT,
     "",
     "a",

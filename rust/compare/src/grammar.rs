@@ -3,7 +3,7 @@
 use crate::pieces::Draws;
 
 /// The 25 blanks of document 01 but CR, which no text may have.
-const BLANKS: &[&str] = &[
+pub const BLANKS: &[&str] = &[
     " ", "\t", "\n", "\u{b}", "\u{c}", "\u{85}", "\u{a0}", "\u{1680}", "\u{2000}", "\u{2001}", "\u{2002}", "\u{2003}", "\u{2004}", "\u{2005}",
     "\u{2006}", "\u{2007}", "\u{2008}", "\u{2009}", "\u{200a}", "\u{2028}", "\u{2029}", "\u{202f}", "\u{205f}", "\u{3000}",
 ];

@@ -5,7 +5,7 @@ use compare::guarded::Memory;
 use compare::judge::Operation;
 use compare::shrink::shrink;
 use compare::trial::{check, Tally};
-use std::io::Read;
+use std::io::{Read, Write};
 use std::process::ExitCode;
 use std::sync::atomic::{AtomicU64, Ordering};
 use std::sync::Mutex;
@@ -16,6 +16,7 @@ const USAGE: &str = "\
 compare gate [SEED [THREADS]]    a few minutes
 compare long [SEED [THREADS]]    the long run
 compare one OPERATION [SEED]     one text from standard input: post, marks, quotes, lists, attribution or day
+compare cases                    writes the cases of the program `replay` to standard output
 ";
 
 /// The seed where none is given.
@@ -46,6 +47,7 @@ fn main() -> ExitCode {
     match (words.first(), operation, number(words.get(seed_at), SEED), number(words.get(seed_at + 1), threads)) {
         (Some(&("gate" | "long")), _, Some(seed), Some(threads)) => run(extent, seed, threads.max(1)),
         (Some(&"one"), Some(operation), Some(seed), _) => one(operation, seed),
+        (Some(&"cases"), None, Some(_), _) if words.len() == 1 => cases(),
         _ => {
             eprint!("{USAGE}");
             ExitCode::from(2)
@@ -73,6 +75,17 @@ fn one(operation: Operation, seed: u64) -> ExitCode {
         Err(words) => {
             println!("{words}");
             ExitCode::FAILURE
+        }
+    }
+}
+
+fn cases() -> ExitCode {
+    oracle::keep_patterns();
+    match std::io::stdout().write_all(&compare::cases::file().1) {
+        Ok(()) => ExitCode::SUCCESS,
+        Err(error) => {
+            eprintln!("compare: {error}");
+            ExitCode::from(2)
         }
     }
 }

@@ -1,0 +1,69 @@
+use borrow.Author.Needs.{needs}
+use native.Mathlib.Omega.{arith}
+use mathlib.Core.Path.{_≡_, refl, sym, ap, _∙_}
+use Prim.Native.Nat.{ℕ, suc, _+_, _-_, _≤_, _<_}
+use mathlib.Core.List.{List, [], _∷_, _++_}
+use lib.ListN.{length, getD}
+use Rattle.replay.proofs.cases.case_behind.Statement.{statement}
+use Rattle.replay.proofs.cases.case_behind.Tie as tie
+use Rattle.replay.proofs.cases.case_behind.Reads as reads
+use Rattle.replay.proofs.cases.case_behind.Lts as lts
+use Rattle.replay.proofs.cases.line_behind.Reads as line-behind-reads
+
+abbrev Inv-loop : tie.InvT-loop
+Inv-loop s at i₀ i = (at ≤ i) × (i ≤ length s)
+
+abbrev μ-loop : tie.MeasureT-loop
+μ-loop s at i₀ i = length s - i
+
+-- src/cases.rt:29:5
+loop-holds : tie.Need-loop-holds Inv-loop μ-loop
+loop-holds c = (search needs, search needs)
+
+-- src/cases.rt:30:12
+shared-slice-read-if1 : tie.Need-shared-slice-read-if1 Inv-loop μ-loop
+shared-slice-read-if1 c = search needs
+
+-- src/cases.rt:31:20
+add-result : tie.Need-add-result Inv-loop μ-loop
+add-result c = search needs
+
+-- src/cases.rt:31:13
+returns : tie.Need-returns Inv-loop μ-loop
+returns c = (search needs, search needs)
+
+-- src/cases.rt:33:28
+add-line-behind : tie.Need-add-line-behind Inv-loop μ-loop
+add-line-behind c = search needs
+
+-- src/cases.rt:33:9
+line-behind-requires : tie.Need-line-behind-requires Inv-loop μ-loop
+line-behind-requires c κs = search needs
+
+-- src/cases.rt:29:5
+loop-less : tie.Need-loop-less Inv-loop μ-loop
+loop-less c = search needs
+
+-- src/cases.rt:29:5
+loop-again : tie.Need-loop-again Inv-loop μ-loop
+loop-again c = (search needs, search needs)
+
+-- src/cases.rt:23:1
+returns-2 : tie.Need-returns-2 Inv-loop μ-loop
+returns-2 c = (search needs, search needs)
+
+pub case-behind-spec : {M : Type 1} → statement M
+case-behind-spec =
+    tie.close
+    (tie.spec
+    Inv-loop
+    μ-loop
+    loop-holds
+    shared-slice-read-if1
+    add-result
+    returns
+    add-line-behind
+    line-behind-requires
+    loop-less
+    loop-again
+    returns-2)

@@ -1,0 +1,66 @@
+// The file of cases: a line that says what a case shows, the line of its post, its listing, an empty line.
+ghost use mathlib.Core.Path.{_≡_};
+ghost use Prim.Native.Nat.{_≤_, _<_};
+ghost use lib.ListN.{length};
+
+// The place behind the line that a place stands in.
+pub fn line_behind(s: &[u8], at: usize) -> usize
+    requires { ⌜ at ≤ length (now s) ⌝ }
+    ensures { λ r. ⌜ at ≤ r ⌝ }
+    ensures { λ r. ⌜ r ≤ length (now (s .entry)) ⌝ }
+{
+    let mut i = at;
+    while i < s.len() {
+        if s[i] == b'\n' {
+            return i + 1;
+        }
+        i += 1;
+    }
+    i
+}
+
+// The place behind the next empty line, from the start of a line on.
+pub fn case_behind(s: &[u8], at: usize) -> usize
+    requires { ⌜ at < length (now s) ⌝ }
+    ensures { λ r. ⌜ at < r ⌝ }
+    ensures { λ r. ⌜ r ≤ length (now (s .entry)) ⌝ }
+{
+    let mut i = at;
+    while i < s.len() {
+        if s[i] == b'\n' {
+            return i + 1;
+        }
+        i = line_behind(s, i + 1);
+    }
+    i
+}
+
+// Whether a text begins with these bytes.
+pub fn begins(s: &[u8], word: &[u8]) -> bool {
+    let mut i: usize = 0;
+    while i < word.len() {
+        if s.len() <= i {
+            return false;
+        }
+        if s[i] != word[i] {
+            return false;
+        }
+        i += 1;
+    }
+    true
+}
+
+// Whether the end of a case is this listing and an empty line.
+pub fn is_answer(answer: &[u8], listing: &[u8]) -> bool {
+    if answer.len() == 0 {
+        return false;
+    }
+    let last = answer.len() - 1;
+    if last != listing.len() {
+        return false;
+    }
+    if answer[last] != b'\n' {
+        return false;
+    }
+    begins(answer, listing)
+}
