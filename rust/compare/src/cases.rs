@@ -83,6 +83,13 @@ fn readings() -> Vec<Case> {
     for (shows, post) in POSTS {
         put(shows, post.to_string());
     }
+    // From 2000-03-01 on, each day before, at and behind the start of a month for a year.
+    let mut day = 11_017;
+    for length in [31, 30, 31, 30, 31, 31, 30, 31, 30, 31, 31, 28] {
+        let times: String = [day - 1, day, day + 1].iter().map(|day| format!("[quote=time={}]x[/quote]", day * 86_400)).collect();
+        put("days around the start of a month", times);
+        day += length;
+    }
     for blank in BLANKS {
         let name = format!("blank U+{:04X}", blank.chars().next().map_or(0, u32::from));
         put(&name, format!("[quote]{blank}a{blank}[/quote][list={blank}1{blank}][*]{blank}a{blank}[*]{blank}[/list]"));
