@@ -2,6 +2,7 @@
 ghost use mathlib.Core.Path.{_≡_};
 ghost use Prim.Native.Nat.{_≤_, _<_};
 ghost use lib.ListN.{length};
+ghost use Rattle.quote_lines.specs.Lines.{same};
 
 // The place behind the line that a place stands in.
 pub fn line_behind(s: &[u8], at: usize) -> usize
@@ -35,17 +36,22 @@ pub fn case_behind(s: &[u8], at: usize) -> usize
     i
 }
 
-// Whether a text begins with these bytes.
-pub fn begins(s: &[u8], word: &[u8]) -> bool {
+// Whether two texts have the same bytes.
+pub fn is_same(a: &[u8], b: &[u8]) -> bool
+    ensures { λ r. ⌜ r ≡ same (now (a .entry)) (now (b .entry)) ⌝ }
+{
     let mut i: usize = 0;
-    while i < word.len() {
-        if s.len() <= i {
+    while i < a.len() {
+        if b.len() <= i {
             return false;
         }
-        if s[i] != word[i] {
+        if a[i] != b[i] {
             return false;
         }
         i += 1;
+    }
+    if i < b.len() {
+        return false;
     }
     true
 }
@@ -56,11 +62,8 @@ pub fn is_answer(answer: &[u8], listing: &[u8]) -> bool {
         return false;
     }
     let last = answer.len() - 1;
-    if last != listing.len() {
-        return false;
-    }
     if answer[last] != b'\n' {
         return false;
     }
-    begins(answer, listing)
+    is_same(&answer[..last], listing)
 }

@@ -1,6 +1,7 @@
 // The post of a case: `post=`, then its bytes, LF as `\n`, backslash as `\\`, and as `\xNN` a byte that no listing has.
-use crate::cases::begins;
 use post_listing::list_thread;
+use text::PostAt;
+use text::scan::begins_at;
 ghost use Prim.Native.Nat.{_+_, _≤_, _<_};
 ghost use lib.ListN.{length};
 ghost use Rattle.io.specs.Counts.{Counts};
@@ -90,7 +91,7 @@ pub fn list_line(s: &[u8], buf: &mut [u8], nums: &mut [u32]) -> usize
     if n < 5 {
         return 0;
     }
-    if !begins(&line[..n], b"post=") {
+    if !begins_at(&line[..n], PostAt(0), b"post=") {
         return 0;
     }
     let end = list_thread(&line[5..n], buf, nums);

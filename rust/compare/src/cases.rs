@@ -43,6 +43,7 @@ const POSTS: &[(&str, &str)] = &[
     ("9 digits", "[quote=time=000000000]x[/quote]"),
     ("a second quote of one attribution takes the next tag", "[quote=k=1]a[/quote]\n[quote=k=1]b[/quote]"),
     ("a quote without losses moves on too", "[quote=a]x[/quote]\n[quote=a]y[/quote]\n[quote=a k=1]z[/quote]"),
+    ("a search that fails does not move on", "[quote= [i]x[/i] k=1]a[/quote]\n[quote= [i]y[/i] k=2]b[/quote]"),
     ("a quote in code has no line", "[code][quote=k=1]x[/code]\n[quote=k=1]y"),
     ("a code with a value", "[code=x y][quote=k=1]x[/code]\n[quote=k=1]y"),
     ("a code with no closer hides nothing", "[code][quote=k=1]x\n[quote=k=1]y"),
@@ -81,6 +82,13 @@ fn readings() -> Vec<Case> {
     }
     for (shows, post) in POSTS {
         put(shows, post.to_string());
+    }
+    // From 2000-03-01 on, each day before, at and behind the start of a month for a year.
+    let mut day = 11_017;
+    for length in [31, 30, 31, 30, 31, 31, 30, 31, 30, 31, 31, 28] {
+        let times: String = [day - 1, day, day + 1].iter().map(|day| format!("[quote=time={}]x[/quote]", day * 86_400)).collect();
+        put("days around the start of a month", times);
+        day += length;
     }
     for blank in BLANKS {
         let name = format!("blank U+{:04X}", blank.chars().next().map_or(0, u32::from));
@@ -125,6 +133,8 @@ fn limits() -> Vec<(u32, Case)> {
     put(0, "64 losses", format!("[quote={}]x", many("k= ", 64)).as_bytes());
     put(7, "65 losses", format!("[quote={}]x", many("k= ", 65)).as_bytes());
     put(7, "65 losses, in two quotes", format!("[quote={}]x[/quote][quote=k=]", many("k= ", 64)).as_bytes());
+    put(0, "100 empty items are trimmed", format!("[list][*]a{}[/list]", many("[*]", 100)).as_bytes());
+    put(0, "100 spaces are trimmed", format!("[quote]{}[/quote]", many(" ", 100)).as_bytes());
     let lined = |opener: &str, depth: usize, lines: usize| format!("{}{}", opener.repeat(depth), "x\n".repeat(lines));
     put(7, "65 losses, and too much output", format!("[quote={}]{}", many("k= ", 65), lined("[quote]", 60, 100)).as_bytes());
     put(6, "too much output in quotes", lined("[quote]", 60, 100).as_bytes());
