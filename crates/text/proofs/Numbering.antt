@@ -12,7 +12,6 @@ use lib.Seq.{drop-cons, take-suc-set, take-all, append-snoc}
 use Rattle.text.specs.Ascii.{toFirst}
 use Rattle.text.specs.Blanks.{blank1, blankSize}
 use Rattle.text.specs.Cells.{Cell, cell, cells, blankAt, moreAfter, cellsFrom, cellsOf, written, sign}
-use Rattle.text.specs.Writes.{numbered}
 use Rattle.text.proofs.Writing.{cells-in, cells-short}
 use Rattle.text.proofs.Characters.{ascii-blank, ascii-at}
 
@@ -63,6 +62,10 @@ cells-renumber (b ∷ bs) [] zero x = refl
 cells-renumber (b ∷ bs) [] (suc i) x = refl
 cells-renumber (b ∷ bs) (n ∷ ns) zero x = refl
 cells-renumber (b ∷ bs) (n ∷ ns) (suc i) x = ap (λ (l : List Cell). cell b n ∷ l) (cells-renumber bs ns i x)
+
+-- the cells of a post s: the first i with the numbers ns, the rest still to be numbered, where `more` bytes are left of a blank character
+abbrev pub numbered : (s : List ℕ) (i more : ℕ) (ns : List ℕ) → List Cell
+numbered s i more ns = take i (cells s ns) ++ cellsFrom suc (i + 1) more (drop i s)
 
 pub numbered-start : (s ns : List ℕ) → cellsOf s ≡ numbered s 0 0 ns
 unfolding cellsOf

@@ -2,17 +2,15 @@
 --   Holds v at s              the first `at` cells of v are s, where s fits; where it does not, `at` is past v's end
 --   Appends v at v' at' t     from v at `at` to v' at `at'`, t has been appended
 --   AppendsIn .. end ..       the same in the area before `end` of a longer pair of slices; nothing behind it changes
---   numbered s i more ns      the cells of a post s: the first i with the numbers ns, the rest still to be numbered, where `more` bytes are left of a
---                             blank character
 --   cleared from xs           xs with a 0 for each element from place `from` on
 --   padded m xs               a slice of m elements that holds xs and then zeros
 --   LaidOut x m k out plain   the text x stands in out and its origins in plain, slices of m and k elements, with zeros behind
 -- Assumes nothing.
 use mathlib.Core.Path.{_≡_}
-use Prim.Native.Nat.{ℕ, suc, _+_, _-_, _≤_, _<_}
+use Prim.Native.Nat.{ℕ, _-_, _≤_, _<_}
 use mathlib.Core.List.{List, _++_}
 use lib.ListN.{length, take, drop, replicate}
-use Rattle.text.specs.Cells.{Cell, cells, cellsFrom, bytes, origins}
+use Rattle.text.specs.Cells.{Cell, cells, bytes, origins}
 
 pub record Holds (v : List Cell) (at : ℕ) (s : List Cell) : Type 0 where
   pub end : length s ≤ length v → at ≡ length s
@@ -28,9 +26,6 @@ pub record AppendsIn (bs ns : List ℕ) (end at : ℕ) (bs' ns' : List ℕ) (at'
   pub appends : Appends (take end (cells bs ns)) at (take end (cells bs' ns')) at' t
   pub bytes-behind : drop end bs' ≡ drop end bs
   pub numbers-behind : drop end ns' ≡ drop end ns
-
-abbrev pub numbered : (s : List ℕ) (i more : ℕ) (ns : List ℕ) → List Cell
-numbered s i more ns = take i (cells s ns) ++ cellsFrom suc (i + 1) more (drop i s)
 
 unfoldable pub cleared : (from : ℕ) → List ℕ → List ℕ
 cleared from xs = take from xs ++ replicate (length xs - from) 0

@@ -5,13 +5,13 @@ use crate::scan::is_inside;
 use crate::scan::is_wide_16;
 ghost use mathlib.Core.Path.{_≡_};
 ghost use mathlib.Core.Bool.{cond};
-ghost use Prim.Native.Nat.{_+_, _≤_, _<_};
-ghost use lib.ListN.{length, drop};
+ghost use mathlib.Core.List.{_++_};
+ghost use Prim.Native.Nat.{suc, _+_, _≤_, _<_};
+ghost use lib.ListN.{length, take, drop};
 ghost use lib.Dec.{leb};
 ghost use Rattle.text.specs.Ascii.{toFirst};
 ghost use Rattle.text.specs.Blanks.{blank1, blank2, blankE280, blank3, blankWidth, blankSize};
-ghost use Rattle.text.specs.Cells.{blankAt, moreAfter, cells, cellsOf};
-ghost use Rattle.text.specs.Writes.{numbered};
+ghost use Rattle.text.specs.Cells.{blankAt, moreAfter, cells, cellsFrom, cellsOf};
 
 fn is_blank1(a: u8) -> bool
     ensures { λ r. ⌜ r ≡ blank1 a ⌝ }
@@ -140,7 +140,7 @@ fn ascii_blank(b: u8) -> u32
 // Numbers the 16 bytes from i on, all ASCII.
 fn number_16(s: &[u8], i: usize, nums: &mut [u32])
     requires { ⌜ ((length (now s) ≤ 262144) × (length (now s) ≤ length (now nums))) × ((i + 16 ≤ length (now s)) × (16 ≤ toFirst (leb 128) (drop i (now s)))) ⌝ }
-    ensures { λ _. ⌜ numbered (now (s .entry)) i 0 (now (nums .entry)) ≡ numbered (now (s .entry)) (i + 16) 0 (now (nums .exit)) ⌝ }
+    ensures { λ _. ⌜ take i (cells (now (s .entry)) (now (nums .entry))) ++ cellsFrom suc (i + 1) 0 (drop i (now (s .entry))) ≡ take (i + 16) (cells (now (s .entry)) (now (nums .exit))) ++ cellsFrom suc (i + 16 + 1) 0 (drop (i + 16) (now (s .entry))) ⌝ }
 {
     let mut k: usize = 0;
     while k < 16 {
@@ -152,7 +152,7 @@ fn number_16(s: &[u8], i: usize, nums: &mut [u32])
 // Numbers the bytes from i up to e, where `more` bytes are left of a blank character that began before; how many are left behind e.
 fn number_part(s: &[u8], i: usize, e: usize, more: usize, nums: &mut [u32]) -> usize
     requires { ⌜ ((length (now s) ≤ 262144) × (length (now s) ≤ length (now nums))) × ((i ≤ e) × (e ≤ length (now s))) ⌝ }
-    ensures { λ r. ⌜ numbered (now (s .entry)) i more (now (nums .entry)) ≡ numbered (now (s .entry)) e r (now (nums .exit)) ⌝ }
+    ensures { λ r. ⌜ take i (cells (now (s .entry)) (now (nums .entry))) ++ cellsFrom suc (i + 1) more (drop i (now (s .entry))) ≡ take e (cells (now (s .entry)) (now (nums .exit))) ++ cellsFrom suc (e + 1) r (drop e (now (s .entry))) ⌝ }
 {
     let mut left = more;
     let mut j = i;
@@ -168,7 +168,7 @@ fn number_part(s: &[u8], i: usize, e: usize, more: usize, nums: &mut [u32]) -> u
 // Numbers 16 bytes from i on.
 fn number_block(s: &[u8], i: usize, more: usize, nums: &mut [u32]) -> usize
     requires { ⌜ ((length (now s) ≤ 262144) × (length (now s) ≤ length (now nums))) × (i + 16 ≤ length (now s)) ⌝ }
-    ensures { λ r. ⌜ numbered (now (s .entry)) i more (now (nums .entry)) ≡ numbered (now (s .entry)) (i + 16) r (now (nums .exit)) ⌝ }
+    ensures { λ r. ⌜ take i (cells (now (s .entry)) (now (nums .entry))) ++ cellsFrom suc (i + 1) more (drop i (now (s .entry))) ≡ take (i + 16) (cells (now (s .entry)) (now (nums .exit))) ++ cellsFrom suc (i + 16 + 1) r (drop (i + 16) (now (s .entry))) ⌝ }
 {
     if more == 0 {
         if is_wide_16(s, i) {

@@ -6,8 +6,7 @@ use Prim.Native.Nat.{ℕ, suc, _+_, _-_, _≤_, _<_}
 use mathlib.Core.List.{List, [], _∷_, _++_}
 use lib.ListN.{length}
 use Rattle.text.specs.Cells.{cellsOf}
-use Rattle.text.specs.Writes.{numbered}
-use Rattle.text.proofs.Numbering.{numbered-start, numbered-end}
+use Rattle.text.proofs.Numbering.{numbered, numbered-start, numbered-end}
 use Rattle.text.proofs.blank.number.Statement.{statement}
 use Rattle.text.proofs.blank.number.Tie as tie
 use Rattle.text.proofs.blank.number.Reads as reads

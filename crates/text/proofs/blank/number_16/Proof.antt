@@ -5,8 +5,7 @@ use mathlib.Core.Path.{_≡_, refl, sym, ap, _∙_}
 use Prim.Native.Nat.{ℕ, suc, _+_, _-_, _≤_, _<_}
 use mathlib.Core.List.{List, [], _∷_, _++_}
 use lib.ListN.{length, getD, length-set}
-use Rattle.text.specs.Writes.{numbered}
-use Rattle.text.proofs.Numbering.{ascii-small, numbered-to, ascii-turn-16}
+use Rattle.text.proofs.Numbering.{numbered, ascii-small, numbered-to, ascii-turn-16}
 use Rattle.text.proofs.blank.number_16.Statement.{statement}
 use Rattle.text.proofs.blank.number_16.Tie as tie
 use Rattle.text.proofs.blank.number_16.Reads as reads

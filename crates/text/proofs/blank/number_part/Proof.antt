@@ -5,8 +5,7 @@ use Prim.Native.Nat.{ℕ, suc, _+_, _-_, _≤_, _<_}
 use mathlib.Core.List.{List, [], _∷_, _++_}
 use lib.ListN.{length, getD, length-set}
 use native.Mathlib.Nat.{le-antisymm}
-use Rattle.text.specs.Writes.{numbered}
-use Rattle.text.proofs.Numbering.{placed-small, numbered-turn}
+use Rattle.text.proofs.Numbering.{numbered, placed-small, numbered-turn}
 use Rattle.text.proofs.blank.number_part.Statement.{statement}
 use Rattle.text.proofs.blank.number_part.Tie as tie
 use Rattle.text.proofs.blank.number_part.Reads as reads
