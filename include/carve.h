@@ -9,7 +9,7 @@
  *   out         m bytes, at most 16,777,216: the converted text
  *   origins     m numbers at least: of each byte of the output 1 + its position in the text, or 0 where a rule wrote it
  *   spans       2 * (n / 3) numbers at least (carve_marks alone): start and end of each mark in the output
- *   records     five numbers a loss: quote (from 1), line, unnamed (0 or 1), start and length of the field in the loss bytes
+ *   records     a struct carve_loss for each loss; their number is that of records, not of numbers
  *   loss_bytes  the fields of the losses, one behind the other
  *   work        n + 3 * m bytes at least, free after the call
  *   numbers     8 * n + 3 * m + 64 numbers at least, free after the call
@@ -42,10 +42,19 @@ enum carve_result {
     CARVE_NOT_SECONDS = 9        /* carve_day: not 9 to 11 bytes, all digits */
 };
 
+/* A loss: the number of its quote from 1, its line, unnamed 0 or 1, and where its field stands in the loss bytes. */
+struct carve_loss {
+    uint32_t quote;
+    uint32_t line;
+    uint32_t unnamed;
+    uint32_t start;
+    uint32_t length;
+};
+
 /* A whole post: marks, then quotes, then lists. Lines in the records are lines of the post.
  * Refusals 1 to 4, then marks 6, quotes 5, 7, 8, 6, lists 5, 6. counts: length, losses, loss bytes. */
 uint32_t carve_post(const uint8_t *text, size_t text_len, uint8_t *out, size_t out_len, uint32_t *origins, size_t origins_len,
-                    uint32_t *records, size_t records_len, uint8_t *loss_bytes, size_t loss_bytes_len,
+                    struct carve_loss *records, size_t records_len, uint8_t *loss_bytes, size_t loss_bytes_len,
                     uint8_t *work, size_t work_len, uint32_t *numbers, size_t numbers_len, uint32_t counts[3]);
 
 /* Tags to marks. Refusals 1 to 4, 6. counts: length, marks, 0. */
@@ -55,7 +64,7 @@ uint32_t carve_marks(const uint8_t *text, size_t text_len, uint8_t *out, size_t 
 
 /* Quotes. Refusals 1 to 4, 5, 7, 8, 6. counts: length, losses, loss bytes. */
 uint32_t carve_quotes(const uint8_t *text, size_t text_len, uint8_t *out, size_t out_len, uint32_t *origins, size_t origins_len,
-                      uint32_t *records, size_t records_len, uint8_t *loss_bytes, size_t loss_bytes_len,
+                      struct carve_loss *records, size_t records_len, uint8_t *loss_bytes, size_t loss_bytes_len,
                       uint8_t *work, size_t work_len, uint32_t *numbers, size_t numbers_len, uint32_t counts[3]);
 
 /* Lists. Refusals 1 to 4, 5, 6. counts: length, 0, 0. */
@@ -65,7 +74,7 @@ uint32_t carve_lists(const uint8_t *text, size_t text_len, uint8_t *out, size_t 
 /* The caption of an attribution, and its losses, whose quote and line are 0; so are all origins.
  * Refusals 1 to 4, 7, 8, 6. counts: length of the caption, losses, loss bytes. */
 uint32_t carve_attribution(const uint8_t *text, size_t text_len, uint8_t *out, size_t out_len, uint32_t *origins, size_t origins_len,
-                           uint32_t *records, size_t records_len, uint8_t *loss_bytes, size_t loss_bytes_len,
+                           struct carve_loss *records, size_t records_len, uint8_t *loss_bytes, size_t loss_bytes_len,
                            uint8_t *work, size_t work_len, uint32_t *numbers, size_t numbers_len, uint32_t counts[3]);
 
 /* The day, as 2026-01-31, of 9 to 11 digits that are seconds since 1970. The output has 10 bytes or more.

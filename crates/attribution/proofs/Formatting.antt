@@ -2,7 +2,7 @@
 use mathlib.Core.Path.{_≡_, refl, sym, ap, _∙_}
 use mathlib.Core.Bool.{Bool, false, cond}
 use mathlib.Core.List.{List, [], _∷_, _++_}
-use Prim.Native.Nat.{ℕ, zero, suc, _+_, _-_, _*_, _/_, _≤_, _<_}
+use Prim.Native.Nat.{ℕ, zero, suc, _+_, _-_, _*_, _≤_, _<_}
 use native.Mathlib.Nat.{sub-zero}
 use native.Mathlib.Omega.{arith}
 use native.Mathlib.Decide.{decLe}
@@ -29,7 +29,9 @@ use Rattle.attribution_losses.specs.Lists.{Puts, recordsOf, lossWords, Lists}
 use Rattle.attribution_losses.proofs.Losing.{listed-counts}
 use Rattle.attribution.specs.declared.Attributed.{Attributed}
 use Rattle.attribution.specs.declared.Attributed.the-variants.{Done, Refused}
-use Rattle.attribution.specs.Calls.{formatted, answerBy, answered, captionBy, recordsBy, wordsBy, Holding, Called, Formatted}
+use Rattle.attribution.specs.Calls.{formatted, answerBy, answered, lossesBy, Holding, Called, Noted, Formatted, Numbered}
+use Rattle.losses.specs.declared.Loss.{Loss}
+use Rattle.losses.specs.Records.{recordsLent}
 use Rattle.attribution.proofs.TextLaws.{written-bytes}
 use Rattle.attribution.proofs.Fitting.{texts-within-caption}
 
@@ -38,10 +40,8 @@ use Rattle.attribution.proofs.Fitting.{texts-within-caption}
 none-left : (xs : List ℕ) → cleared 0 xs ≡ padded (length xs) []
 none-left xs = laid-cleared [] xs 0 (length xs) refl refl refl
 
-pub all-zero : (m k : ℕ) (numbers bytes : List ℕ) {out' origins' numbers' bytes' : List ℕ}
-    → LaidOut [] m k out' origins' → numbers' ≡ cleared 0 numbers → bytes' ≡ cleared 0 bytes
-    → Holding [] [] [] m k (length numbers) (length bytes) out' origins' numbers' bytes'
-all-zero m k numbers bytes l q r = record { written = l .text; from = l .from; listed = q ∙ none-left numbers; lost = r ∙ none-left bytes }
+pub all-zero : (m k : ℕ) (bytes : List ℕ) {out' origins' bytes' : List ℕ} → LaidOut [] m k out' origins' → bytes' ≡ cleared 0 bytes → Holding [] [] m k (length bytes) out' origins' bytes'
+all-zero m k bytes l r = record { written = l .text; from = l .from; lost = r ∙ none-left bytes }
 
 -- ---- what has been put, with zeros behind it
 
@@ -54,18 +54,20 @@ module _ {numbers bytes numbers₁ bytes₁ : List ℕ} {k e : ℕ} (s : List �
   pub counted : Done len k e ≡ Done len (length (losses s)) (length (lossWords (losses s)))
   counted = let n = listed-counts (losses s) h in let a : k ≡ length (losses s) = omega (arith, n .0) in let b : e ≡ length (lossWords (losses s)) = omega (arith, n .1) in rw (a, b)
 
-  pub all-listed : (out origins : List ℕ) {out' origins' numbers' bytes' : List ℕ} → len ≤ length out → 5 * length (losses s) ≤ length numbers → length (lossWords (losses s)) ≤ length bytes
-      → out' ≡ cleared len out → origins' ≡ cleared 0 origins → numbers' ≡ cleared (5 * k) numbers₁ → bytes' ≡ cleared e bytes₁
-      → Holding (take len out) (recordsOf 0 0 0 (losses s)) (lossWords (losses s)) (length out) (length origins) (length numbers) (length bytes) out' origins' numbers' bytes'
-  all-listed out origins in-out in-numbers in-bytes o p q r =
+  pub all-listed : (out origins : List ℕ) {out' origins' bytes' : List ℕ} → len ≤ length out → length (lossWords (losses s)) ≤ length bytes → k ≤ 0 + length s
+      → out' ≡ cleared len out → origins' ≡ cleared 0 origins → bytes' ≡ cleared e bytes₁
+      → Holding (take len out) (lossWords (losses s)) (length out) (length origins) (length bytes) out' origins' bytes'
+      × (Puts numbers 0 numbers₁ (5 * length (losses s)) (recordsOf 0 0 0 (losses s)) × (length (losses s) ≤ length s))
+  all-listed out origins in-out in-bytes few o p r =
       let n = listed-counts (losses s) h in
-      let z = h .records .end in
-      record {
-        written = o ∙ laid-cleared (take len out) out len (length out) refl (length-take-le len out in-out) refl;
-        from = p ∙ none-left origins;
-        listed = q ∙ put-cleared (h .records) (omega (arith, n .0, z));
-        lost = r ∙ put-cleared (h .words) in-bytes;
-      }
+      let f : k ≡ length (losses s) = omega (arith, n .0) in (
+        record {
+          written = o ∙ laid-cleared (take len out) out len (length out) refl (length-take-le len out in-out) refl;
+          from = p ∙ none-left origins;
+          lost = r ∙ put-cleared (h .words) in-bytes;
+        },
+        (rw (← f) (h .records), omega (arith, f)),
+      )
 
 -- ---- the caption, over its joined texts
 
@@ -142,43 +144,56 @@ module _ (s out origins : List ℕ) (len : ℕ) (h : Holds (cells out origins) l
 not-over : (a number n : ℕ) → number ≡ n → number ≤ a → ltb a n ≡ false
 not-over a number n e h = le-ltb a n (rw (← e) h)
 
-pub records-room : (number l : ℕ) → number ≤ l / 5 → 5 * number ≤ l
-records-room number l h = omega arith
+-- on a refusal no losses are noted
+none-noted : (s : List ℕ) (l : ℕ) (r : Refusal) (numbers : List ℕ) → Noted s l (Refused r) numbers
+none-noted s l r numbers = record { room = omega arith; few = omega arith; there = refl }
 
 module _ (s : List ℕ) (m k l b number size : ℕ) (hn : number ≡ length (losses s)) (hb : size ≡ length (lossWords (losses s))) {out origins numbers bytes : List ℕ} where
-  pub too-many : (a : Attributed) → l / 5 < number → a ≡ Refused TooManyLosses → Holding [] [] [] m k l b out origins numbers bytes → Formatted s m k l b a out origins numbers bytes
+  pub too-many : (a : Attributed) → l < number → a ≡ Refused TooManyLosses → Holding [] [] m k b out origins bytes → Formatted s m k l b a out origins numbers bytes
   unfolding formatted
-  too-many a h z g = rw z (record { answer = rw (lt-ltb (l / 5) (length (losses s)) (rw (← hn) h)); holds = g })
+  too-many a h z g = rw z (record { answer = rw (lt-ltb l (length (losses s)) (rw (← hn) h)); holds = g; noted = none-noted s l TooManyLosses numbers })
 
-  module _ (few : number ≤ l / 5) where
-    pub bytes-short : (a : Attributed) → b < size → a ≡ Refused LossBytesShort → Holding [] [] [] m k l b out origins numbers bytes → Formatted s m k l b a out origins numbers bytes
+  module _ (few : number ≤ l) where
+    pub bytes-short : (a : Attributed) → b < size → a ≡ Refused LossBytesShort → Holding [] [] m k b out origins bytes → Formatted s m k l b a out origins numbers bytes
     unfolding formatted
-    bytes-short a h z g = rw z (record { answer = rw (not-over (l / 5) number (length (losses s)) hn few, lt-ltb b (length (lossWords (losses s))) (rw (← hb) h)); holds = g })
+    bytes-short a h z g =
+        rw z (record { answer = rw (not-over l number (length (losses s)) hn few, lt-ltb b (length (lossWords (losses s))) (rw (← hb) h)); holds = g; noted = none-noted s l LossBytesShort numbers })
 
     module _ (small : size ≤ b) where
       module _ (out₁ origins₁ : List ℕ) (len : ℕ) (h : Holds (cells out₁ origins₁) len (written (caption s))) (mo : length out₁ ≡ m) (enough : m ≤ length origins₁) where
-        pub no-space : (a : Attributed) → m < len → a ≡ Refused NoSpace → Holding [] [] [] m k l b out origins numbers bytes → Formatted s m k l b a out origins numbers bytes
+        pub no-space : (a : Attributed) → m < len → a ≡ Refused NoSpace → Holding [] [] m k b out origins bytes → Formatted s m k l b a out origins numbers bytes
         unfolding formatted
         no-space a far z g =
             let over = caption-over s out₁ origins₁ len h (omega arith) (omega arith) in
-            rw z (record { answer = rw (not-over (l / 5) number (length (losses s)) hn few, not-over b size (length (lossWords (losses s))) hb small, lt-ltb m (length (caption s)) (omega arith)); holds = g })
+            rw z (record { answer = rw (not-over l number (length (losses s)) hn few, not-over b size (length (lossWords (losses s))) hb small, lt-ltb m (length (caption s)) (omega arith)); holds = g; noted = none-noted s l NoSpace numbers })
 
-        pub done : (a : Attributed) → len ≤ m → a ≡ Done len (length (losses s)) (length (lossWords (losses s)))
-            → Holding (take len out₁) (recordsOf 0 0 0 (losses s)) (lossWords (losses s)) m k l b out origins numbers bytes → Formatted s m k l b a out origins numbers bytes
+        pub done : {numbers₁ : List ℕ} (a : Attributed) → len ≤ m → a ≡ Done len (length (losses s)) (length (lossWords (losses s)))
+            → Holding (take len out₁) (lossWords (losses s)) m k b out origins bytes → Puts numbers₁ 0 numbers (5 * length (losses s)) (recordsOf 0 0 0 (losses s)) → 5 * length (losses s) ≤ length numbers₁
+            → Formatted s m k l b a out origins numbers bytes
         unfolding formatted
-        done a near z g =
+        done a near z g p room =
             let e = caption-length s out₁ origins₁ len h (omega arith) (omega arith) in
             let t = caption-text s out₁ origins₁ len h (omega arith) (omega arith) in
-            rw z (record { answer = rw (not-over (l / 5) number (length (losses s)) hn few, not-over b size (length (lossWords (losses s))) hb small, le-ltb m (length (caption s)) (omega arith), e); holds = rw (← t) g })
+            let y = p .size in
+            rw z (record {
+              answer = rw (not-over l number (length (losses s)) hn few, not-over b size (length (lossWords (losses s))) hb small, le-ltb m (length (caption s)) (omega arith), e);
+              holds = rw (← t) g;
+              noted = record { room = omega (arith, y); few = omega (arith, hn); there = p .text room };
+            })
 
 -- ---- the whole call
 
 module _ (s : List ℕ) (m k l b w n : ℕ) (c : Checked) (a : Attributed) {out origins numbers bytes : List ℕ}
     (d : c ≡ checked s (record { out = m; origins = k; work = w; numbers = n; spans = Without })) where
-  pub called-refused : (r : Refusal) → c ≡ C.Refused r → a ≡ Refused r → Holding [] [] [] m k l b out origins numbers bytes → Called s m k l b w n a out origins numbers bytes
+  pub numbered-refused : (r : Refusal) → c ≡ C.Refused r → a ≡ Refused r → Holding [] [] m k b out origins bytes → Numbered s m k l b w n a out origins numbers bytes
   unfolding answered
-  called-refused r e z g = rw z (record { answer = ap (λ (x : Checked). answerBy x s m l b) (sym e ∙ d); holds = g })
+  numbered-refused r e z g = rw z (record { answer = ap (λ (x : Checked). answerBy x s m l b) (sym e ∙ d); holds = g; noted = none-noted s l r numbers })
 
-  pub called-fine : c ≡ C.Fine → Formatted s m k l b a out origins numbers bytes → Called s m k l b w n a out origins numbers bytes
+  pub numbered-fine : c ≡ C.Fine → Formatted s m k l b a out origins numbers bytes → Numbered s m k l b w n a out origins numbers bytes
   unfolding answered
-  called-fine e f = record { answer = f .answer ∙ ap (λ (x : Checked). answerBy x s m l b) (sym e ∙ d); holds = f .holds }
+  numbered-fine e f = record { answer = f .answer ∙ ap (λ (x : Checked). answerBy x s m l b) (sym e ∙ d); holds = f .holds; noted = f .noted }
+
+-- the records are filled from the numbers
+pub called : (s : List ℕ) (m k l b w n : ℕ) (a : Attributed) (out origins numbers bytes : List ℕ) (records : List Loss) → Numbered s m k l b w n a out origins numbers bytes
+    → records ≡ recordsLent l (take (5 * lossesBy a) numbers) → Called s m k l b w n a out origins records bytes
+called s m k l b w n a out origins numbers bytes records c e = record { answer = c .answer; holds = c .holds; listed = e ∙ ap (recordsLent l) (c .noted .there) }

@@ -3,17 +3,22 @@
 --   answered s lent l b    the same with the refusals 1 to 4 first
 --   numberOfAnswer r       document 01's number of an answer: 0 where the call is not turned back
 --   countsOfAnswer r       its values: the caption's length, the losses and the loss bytes; 0 each on a refusal
---   captionBy r s, recordsBy r s, wordsBy r s   the caption, the records and the loss bytes that an answer leaves; nothing on a refusal
---   Holding ..             what the lent slices then hold
+--   captionBy r s, recordsBy r s, wordsBy r s   the caption, the numbers of the records and the loss bytes that an answer leaves; nothing on a
+--                          refusal
+--   Holding ..             what the output, the origins and the loss bytes then hold
 --   Called ..              what comes back, and what the lent slices then hold
---   Formatted ..           the same of a text that is right
+-- In code, where the losses are listed as plain numbers:
+--   lossesBy r             how many there are: none on a refusal
+--   Noted ..               the numbers then begin with theirs, five each
+--   Formatted ..           what comes back for a text that is right, and what the slices then hold
+--   Numbered ..            the same with the refusals 1 to 4 first
 -- m, k: the lengths of the output and the origins; l, b: of the records and the loss bytes; w, n: of the work bytes and the work numbers.
 -- Assumes nothing.
 use mathlib.Core.Path.{_≡_}
-use Prim.Native.Nat.{ℕ, _/_}
+use Prim.Native.Nat.{ℕ, _*_, _≤_}
 use mathlib.Core.Bool.{cond}
 use mathlib.Core.List.{List, [], _∷_}
-use lib.ListN.{length}
+use lib.ListN.{length, take}
 use lib.Dec.{ltb}
 use Rattle.text.specs.Lent.{numberOf, checked}
 use Rattle.text.specs.Writes.{padded}
@@ -24,13 +29,14 @@ use Rattle.text.specs.declared.lent.Checked.{Checked}
 use Rattle.text.specs.declared.lent.Checked.the-variants as C
 use Rattle.attribution_parts.specs.Attribution.{caption, losses}
 use Rattle.attribution_losses.specs.Lists.{recordsOf, lossWords}
+use Rattle.losses.specs.declared.Loss.{Loss}
+use Rattle.losses.specs.Records.{recordsLent}
 use Rattle.attribution.specs.declared.Attributed.{Attributed}
 use Rattle.attribution.specs.declared.Attributed.the-variants.{Done, Refused}
 
--- a record takes five numbers
 unfoldable pub formatted : (s : List ℕ) → (m l b : ℕ) → Attributed
 formatted s m l b =
-    cond (ltb (l / 5) (length (losses s))) (Refused TooManyLosses)
+    cond (ltb l (length (losses s))) (Refused TooManyLosses)
     (cond (ltb b (length (lossWords (losses s)))) (Refused LossBytesShort)
     (cond (ltb m (length (caption s))) (Refused NoSpace)
     (Done (length (caption s)) (length (losses s)) (length (lossWords (losses s))))))
@@ -63,17 +69,35 @@ abbrev pub wordsBy : Attributed → List ℕ → List ℕ
 wordsBy (Done length number bytes) s = lossWords (losses s)
 wordsBy (Refused r) s = []
 
--- the caption, origins that are all 0, the records and the loss bytes, with zeros behind each
-pub record Holding (text records words : List ℕ) (m k l b : ℕ) (out origins numbers bytes : List ℕ) : Type 0 where
+-- the caption, origins that are all 0 and the loss bytes, with zeros behind each
+pub record Holding (text words : List ℕ) (m k b : ℕ) (out origins bytes : List ℕ) : Type 0 where
   pub written : out ≡ padded m text
   pub from : origins ≡ padded k []
-  pub listed : numbers ≡ padded l records
   pub lost : bytes ≡ padded b words
 
-pub record Called (s : List ℕ) (m k l b w n : ℕ) (r : Attributed) (out origins numbers bytes : List ℕ) : Type 0 where
+pub record Called (s : List ℕ) (m k l b w n : ℕ) (r : Attributed) (out origins : List ℕ) (records : List Loss) (bytes : List ℕ) : Type 0 where
   pub answer : r ≡ answered s (record { out = m; origins = k; work = w; numbers = n; spans = Without }) l b
-  pub holds : Holding (captionBy r s) (recordsBy r s) (wordsBy r s) m k l b out origins numbers bytes
+  pub holds : Holding (captionBy r s) (wordsBy r s) m k b out origins bytes
+  pub listed : records ≡ recordsLent l (recordsBy r s)
+
+-- ---- in code
+
+abbrev pub lossesBy : Attributed → ℕ
+lossesBy (Done length number bytes) = number
+lossesBy (Refused r) = 0
+
+-- the losses of an answer stand in front of the numbers, and are no more than l
+pub record Noted (s : List ℕ) (l : ℕ) (r : Attributed) (numbers : List ℕ) : Type 0 where
+  pub room : 5 * lossesBy r ≤ length numbers
+  pub few : lossesBy r ≤ l
+  pub there : take (5 * lossesBy r) numbers ≡ recordsBy r s
 
 pub record Formatted (s : List ℕ) (m k l b : ℕ) (r : Attributed) (out origins numbers bytes : List ℕ) : Type 0 where
   pub answer : r ≡ formatted s m l b
-  pub holds : Holding (captionBy r s) (recordsBy r s) (wordsBy r s) m k l b out origins numbers bytes
+  pub holds : Holding (captionBy r s) (wordsBy r s) m k b out origins bytes
+  pub noted : Noted s l r numbers
+
+pub record Numbered (s : List ℕ) (m k l b w n : ℕ) (r : Attributed) (out origins numbers bytes : List ℕ) : Type 0 where
+  pub answer : r ≡ answered s (record { out = m; origins = k; work = w; numbers = n; spans = Without }) l b
+  pub holds : Holding (captionBy r s) (wordsBy r s) m k b out origins bytes
+  pub noted : Noted s l r numbers

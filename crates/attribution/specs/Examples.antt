@@ -12,20 +12,19 @@ use Rattle.attribution.specs.Calls.{formatted, numberOfAnswer, recordsBy
 
 -- ---- `k=1 x` has one loss, of one byte, and a caption of one byte
 
--- four numbers are no record
-losses-refused-first : numberOfAnswer (formatted (ascii "k=1 x") 0 4 0) ≡ 7
+losses-refused-first : numberOfAnswer (formatted (ascii "k=1 x") 0 0 0) ≡ 7
 unfolding formatted lossWords captionComputes partsCompute textComputes dayComputes
 losses-refused-first = refl
 
-loss-bytes-refused-next : numberOfAnswer (formatted (ascii "k=1 x") 0 5 0) ≡ 8
+loss-bytes-refused-next : numberOfAnswer (formatted (ascii "k=1 x") 0 1 0) ≡ 8
 unfolding formatted lossWords captionComputes partsCompute textComputes dayComputes
 loss-bytes-refused-next = refl
 
-caption-refused-last : numberOfAnswer (formatted (ascii "k=1 x") 0 5 1) ≡ 6
+caption-refused-last : numberOfAnswer (formatted (ascii "k=1 x") 0 1 1) ≡ 6
 unfolding formatted lossWords captionComputes partsCompute textComputes dayComputes
 caption-refused-last = refl
 
-all-lent-used : formatted (ascii "k=1 x") 1 5 1 ≡ Done 1 1 1
+all-lent-used : formatted (ascii "k=1 x") 1 1 1 ≡ Done 1 1 1
 unfolding formatted lossWords captionComputes partsCompute textComputes dayComputes
 all-lent-used = refl
 

@@ -3,6 +3,8 @@ use attribution_losses::join::join_texts;
 use attribution_losses::loss::count_losses;
 use attribution_losses::loss::put_losses;
 use caption::put_caption;
+use losses::Loss;
+use losses::fill;
 use text::TextAt;
 use text::lent::Checked;
 use text::lent::Lent;
@@ -21,8 +23,8 @@ ghost use Rattle.text.specs.Cells.{cells, written};
 ghost use Rattle.text.specs.Writes.{Holds, Appends};
 ghost use Rattle.attribution_parts.specs.Attribution.{caption, losses};
 ghost use Rattle.attribution_losses.specs.Captions.{nameTexts};
-ghost use Rattle.attribution_losses.specs.Lists.{recordsOf, lossWords};
-ghost use Rattle.attribution.specs.Calls.{Holding, Called, Formatted};
+ghost use Rattle.attribution_losses.specs.Lists.{Puts, recordsOf, lossWords};
+ghost use Rattle.attribution.specs.Calls.{lossesBy, Holding, Called, Formatted, Numbered};
 ghost use Rattle.attribution.specs.declared.Attributed.the-variants.{Done, Refused};
 
 pub mod caption;
@@ -33,18 +35,11 @@ pub enum Attributed {
     Refused(Refusal),
 }
 
-// A refusal: all that is lent for the result is zero.
-fn refuse(
-    r: Refusal,
-    out: &mut [u8],
-    origins: &mut [u32],
-    records: &mut [u32],
-    loss_bytes: &mut [u8],
-) -> Attributed
-    ensures { λ a. ⌜ (a ≡ Refused r) × Holding [] [] [] (length (now (out .entry))) (length (now (origins .entry))) (length (now (records .entry))) (length (now («loss_bytes» .entry))) (now (out .exit)) (now (origins .exit)) (now (records .exit)) (now («loss_bytes» .exit)) ⌝ }
+// A refusal: output, origins and loss bytes are zero.
+fn refuse(r: Refusal, out: &mut [u8], origins: &mut [u32], loss_bytes: &mut [u8]) -> Attributed
+    ensures { λ a. ⌜ (a ≡ Refused r) × Holding [] [] (length (now (out .entry))) (length (now (origins .entry))) (length (now («loss_bytes» .entry))) (now (out .exit)) (now (origins .exit)) (now («loss_bytes» .exit)) ⌝ }
 {
     lay_nothing(out, origins);
-    zero32(records, TextAt(0));
     zero8(loss_bytes, TextAt(0));
     Attributed::Refused(r)
 }
@@ -79,16 +74,15 @@ fn finish(
     len: usize,
     out: &mut [u8],
     origins: &mut [u32],
-    records: &mut [u32],
     loss_bytes: &mut [u8],
+    numbers: &mut [u32],
 ) -> Attributed
-    requires { ⌜ ((length (now text) ≤ 262144) × (len ≤ length (now out))) × ((5 * length (losses (now text)) ≤ length (now records)) × (length (lossWords (losses (now text))) ≤ length (now «loss_bytes»))) ⌝ }
-    ensures { λ a. ⌜ (a ≡ Done len (length (losses (now (text .entry)))) (length (lossWords (losses (now (text .entry)))))) × Holding (take len (now (out .entry))) (recordsOf 0 0 0 (losses (now (text .entry)))) (lossWords (losses (now (text .entry)))) (length (now (out .entry))) (length (now (origins .entry))) (length (now (records .entry))) (length (now («loss_bytes» .entry))) (now (out .exit)) (now (origins .exit)) (now (records .exit)) (now («loss_bytes» .exit)) ⌝ }
+    requires { ⌜ ((length (now text) ≤ 262144) × (len ≤ length (now out))) × ((5 * length (now text) ≤ length (now numbers)) × (length (lossWords (losses (now text))) ≤ length (now «loss_bytes»))) ⌝ }
+    ensures { λ a. ⌜ (a ≡ Done len (length (losses (now (text .entry)))) (length (lossWords (losses (now (text .entry)))))) × (Holding (take len (now (out .entry))) (lossWords (losses (now (text .entry)))) (length (now (out .entry))) (length (now (origins .entry))) (length (now («loss_bytes» .entry))) (now (out .exit)) (now (origins .exit)) (now («loss_bytes» .exit)) × (Puts (now (numbers .entry)) 0 (now (numbers .exit)) (5 * length (losses (now (text .entry)))) (recordsOf 0 0 0 (losses (now (text .entry)))) × (length (losses (now (text .entry))) ≤ length (now (text .entry))))) ⌝ }
 {
-    let c = put_losses(text, 0, 0, records, 0, loss_bytes, 0);
+    let c = put_losses(text, 0, 0, numbers, 0, loss_bytes, 0);
     zero8(out, TextAt(len));
     zero32(origins, TextAt(0));
-    zero32(records, TextAt(5 * c.losses));
     zero8(loss_bytes, TextAt(c.bytes));
     Attributed::Done(len, c.losses, c.bytes)
 }
@@ -96,41 +90,41 @@ fn finish(
 // Formats a text that is right, in memory that is large enough.
 fn format(
     text: &[u8],
+    lent: usize,
     out: &mut [u8],
     origins: &mut [u32],
-    records: &mut [u32],
-    loss_bytes: &mut [u8],
-    work: &mut [u8],
-) -> Attributed
-    requires { ⌜ ((length (now text) ≤ 262144) × (length (now out) ≤ length (now origins))) × (length (now text) + 3 * length (now out) ≤ length (now work)) ⌝ }
-    ensures { λ a. ⌜ Formatted (now (text .entry)) (length (now (out .entry))) (length (now (origins .entry))) (length (now (records .entry))) (length (now («loss_bytes» .entry))) a (now (out .exit)) (now (origins .exit)) (now (records .exit)) (now («loss_bytes» .exit)) ⌝ }
-{
-    let c = count_losses(text);
-    if records.len() / 5 < c.losses {
-        return refuse(Refusal::TooManyLosses, out, origins, records, loss_bytes);
-    }
-    if loss_bytes.len() < c.bytes {
-        return refuse(Refusal::LossBytesShort, out, origins, records, loss_bytes);
-    }
-    let len = set_caption(text, out, origins, work);
-    if out.len() < len {
-        return refuse(Refusal::NoSpace, out, origins, records, loss_bytes);
-    }
-    finish(text, len, out, origins, records, loss_bytes)
-}
-
-// An attribution alone: document 01's refusals 1 to 4, then 7, 8, 6. A loss takes five numbers of the records: quote and line, which are 0,
-// unnamed, start and length.
-pub fn format_attribution(
-    text: &[u8],
-    out: &mut [u8],
-    origins: &mut [u32],
-    records: &mut [u32],
     loss_bytes: &mut [u8],
     work: &mut [u8],
     numbers: &mut [u32],
 ) -> Attributed
-    ensures { λ a. ⌜ Called (now (text .entry)) (length (now (out .entry))) (length (now (origins .entry))) (length (now (records .entry))) (length (now («loss_bytes» .entry))) (length (now (work .entry))) (length (now (numbers .entry))) a (now (out .exit)) (now (origins .exit)) (now (records .exit)) (now («loss_bytes» .exit)) ⌝ }
+    requires { ⌜ ((length (now text) ≤ 262144) × (length (now out) ≤ length (now origins))) × ((length (now text) + 3 * length (now out) ≤ length (now work)) × (5 * length (now text) ≤ length (now numbers))) ⌝ }
+    ensures { λ a. ⌜ Formatted (now (text .entry)) (length (now (out .entry))) (length (now (origins .entry))) lent (length (now («loss_bytes» .entry))) a (now (out .exit)) (now (origins .exit)) (now (numbers .exit)) (now («loss_bytes» .exit)) ⌝ }
+{
+    let c = count_losses(text);
+    if lent < c.losses {
+        return refuse(Refusal::TooManyLosses, out, origins, loss_bytes);
+    }
+    if loss_bytes.len() < c.bytes {
+        return refuse(Refusal::LossBytesShort, out, origins, loss_bytes);
+    }
+    let len = set_caption(text, out, origins, work);
+    if out.len() < len {
+        return refuse(Refusal::NoSpace, out, origins, loss_bytes);
+    }
+    finish(text, len, out, origins, loss_bytes, numbers)
+}
+
+// An attribution alone, where `lent` records are lent: document 01's refusals 1 to 4, then 7, 8, 6. Its losses are listed as plain numbers.
+fn format_listed(
+    text: &[u8],
+    out: &mut [u8],
+    origins: &mut [u32],
+    lent: usize,
+    loss_bytes: &mut [u8],
+    work: &mut [u8],
+    numbers: &mut [u32],
+) -> Attributed
+    ensures { λ a. ⌜ Numbered (now (text .entry)) (length (now (out .entry))) (length (now (origins .entry))) lent (length (now («loss_bytes» .entry))) (length (now (work .entry))) (length (now (numbers .entry))) a (now (out .exit)) (now (origins .exit)) (now (numbers .exit)) (now («loss_bytes» .exit)) ⌝ }
 {
     let checked = check(
         text,
@@ -143,7 +137,36 @@ pub fn format_attribution(
         },
     );
     match checked {
-        Checked::Refused(r) => refuse(r, out, origins, records, loss_bytes),
-        Checked::Fine => format(text, out, origins, records, loss_bytes, work),
+        Checked::Refused(r) => refuse(r, out, origins, loss_bytes),
+        Checked::Fine => format(text, lent, out, origins, loss_bytes, work, numbers),
     }
+}
+
+// How many losses an answer comes with.
+fn losses_by(answer: Attributed) -> usize
+    ensures { λ r. ⌜ r ≡ lossesBy answer ⌝ }
+{
+    match answer {
+        Attributed::Done(_, losses, _) => losses,
+        Attributed::Refused(_) => 0,
+    }
+}
+
+// An attribution alone: document 01's refusals 1 to 4, then 7, 8, 6. Quote and line of its losses are 0.
+pub fn format_attribution(
+    text: &[u8],
+    out: &mut [u8],
+    origins: &mut [u32],
+    records: &mut [Loss],
+    loss_bytes: &mut [u8],
+    work: &mut [u8],
+    numbers: &mut [u32],
+) -> Attributed
+    ensures { λ a. ⌜ Called (now (text .entry)) (length (now (out .entry))) (length (now (origins .entry))) (length (now (records .entry))) (length (now («loss_bytes» .entry))) (length (now (work .entry))) (length (now (numbers .entry))) a (now (out .exit)) (now (origins .exit)) (now (records .exit)) (now («loss_bytes» .exit)) ⌝ }
+{
+    let lent = records.len();
+    let answer = format_listed(text, out, origins, lent, loss_bytes, work, numbers);
+    let count = losses_by(answer);
+    fill(records, numbers, count);
+    answer
 }

@@ -2,7 +2,7 @@
 use crate::loss::put_byte;
 use attribution_reading::facts::leading_id;
 use attribution_reading::facts::read_fields;
-use attribution_reading::scan::scan_at;
+use attribution_reading::reader::read_part;
 ghost use mathlib.Core.Path.{_≡_};
 ghost use mathlib.Core.Bool.{cond};
 ghost use mathlib.Core.List.{[]};
@@ -63,7 +63,7 @@ fn join_from(work: &mut [u8], a: usize, e: usize, first: usize, count: usize, at
     let mut pos = first;
     let mut to = at;
     while pos < e - a {
-        let p = scan_at(&work[a..e], pos);
+        let p = read_part(&work[a..e], pos);
         to = put_more(work, p.keylen, a + p.from, p.size, at, to);
         pos = p.next;
     }

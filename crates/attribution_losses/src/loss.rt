@@ -6,7 +6,7 @@ use attribution_reading::facts::Lead;
 use attribution_reading::facts::leading_id;
 use attribution_reading::facts::read_ends;
 use attribution_reading::facts::read_fields;
-use attribution_reading::scan::scan_at;
+use attribution_reading::reader::read_part;
 use day::is_seconds;
 ghost use mathlib.Core.Path.{_≡_};
 ghost use mathlib.Core.Bool.{Bool, not, _&&_};
@@ -190,7 +190,7 @@ fn put_run(s: &[u8], start: usize, first: usize, ends: Ends, buf: &mut [u8], bef
     let mut i = first;
     let mut to = before;
     while at < s.len() {
-        let p = scan_at(s, at);
+        let p = read_part(s, at);
         if p.keylen != 0 {
             return Group {
                 unnamed: 1,
@@ -235,7 +235,7 @@ fn put_group(
     requires { ⌜ (at < length (now s)) × (Told (now s) fields day ends × Here (now s) i at to) ⌝ }
     ensures { λ r. ⌜ Grouped (now (s .entry)) i at (now (buf .entry)) to (now (buf .exit)) r ⌝ }
 {
-    let p = scan_at(s, at);
+    let p = read_part(s, at);
     if p.keylen != 0 {
         if is_used(fields, day, i) {
             return Group {

@@ -2,3 +2,5 @@ pub mod Laws
 pub mod Suffix
 pub mod Fielding
 pub mod Texts
+pub mod Meet
+pub mod LocalReader

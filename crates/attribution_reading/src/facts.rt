@@ -1,7 +1,9 @@
 // What an attribution says: its first usable fields, its leading id, its last text and the split of it.
+use crate::reader::next_part;
+use crate::reader::read_part;
+use crate::reader::reader_at;
 use crate::scan::Place;
 use crate::scan::first_at;
-use crate::scan::scan_at;
 use attribution_parts::Kind;
 use day::all_digits;
 use text::PostAt;
@@ -125,13 +127,15 @@ fn counts_as(s: &[u8], p: Place, k: Kind) -> bool
     false
 }
 
-fn first_field(s: &[u8], k: Kind) -> Field
+// The first usable field of a kind, where the first part begins at `start`.
+fn first_field(s: &[u8], start: usize, k: Kind) -> Field
+    requires { ⌜ Stands (now s) 0 start ⌝ }
     ensures { λ r. ⌜ FieldAt (now (s .entry)) k r ⌝ }
 {
     let mut i: usize = 0;
-    let mut at = first_at(s);
-    while at < s.len() {
-        let p = scan_at(s, at);
+    let mut reader = reader_at(s, start);
+    while reader.next < s.len() {
+        let p = next_part(&mut reader);
         if counts_as(s, p, k) {
             return Field {
                 from: p.from,
@@ -140,7 +144,6 @@ fn first_field(s: &[u8], k: Kind) -> Field
             };
         }
         i += 1;
-        at = p.next;
     }
     Field {
         from: 0,
@@ -152,11 +155,12 @@ fn first_field(s: &[u8], k: Kind) -> Field
 pub fn read_fields(s: &[u8]) -> Fields
     ensures { λ r. ⌜ FieldsAt (now (s .entry)) r ⌝ }
 {
-    let name = first_field(s, Kind::Name);
-    let post = first_field(s, Kind::PostId);
-    let id = first_field(s, Kind::Id);
-    let date = first_field(s, Kind::Date);
-    let time = first_field(s, Kind::Time);
+    let start = first_at(s);
+    let name = first_field(s, start, Kind::Name);
+    let post = first_field(s, start, Kind::PostId);
+    let id = first_field(s, start, Kind::Id);
+    let date = first_field(s, start, Kind::Date);
+    let time = first_field(s, start, Kind::Time);
     Fields {
         name: name,
         post: post,
@@ -187,7 +191,7 @@ pub fn leading_id(s: &[u8]) -> Lead
 {
     let at = first_at(s);
     if at < s.len() {
-        let p = scan_at(s, at);
+        let p = read_part(s, at);
         if is_leading(s, p) {
             return Lead {
                 from: p.from,
@@ -237,18 +241,17 @@ fn last_text(s: &[u8], count: usize, start: usize) -> Last
     ensures { λ r. ⌜ LastAt (now (s .entry)) count r ⌝ }
 {
     let mut i = count;
-    let mut at = start;
     let mut last = Last {
         from: 0,
         size: 0,
         end: 0,
         total: 0,
     };
-    while at < s.len() {
-        let p = scan_at(s, at);
+    let mut reader = reader_at(s, start);
+    while reader.next < s.len() {
+        let p = next_part(&mut reader);
         last = with_part(s, last, p, i);
         i += 1;
-        at = p.next;
     }
     last
 }

@@ -1,8 +1,8 @@
 -- What an operation answers can be counted in 32 bits. Assumes nothing.
-use mathlib.Core.Path.{_≡_, refl}
+use mathlib.Core.Path.{_≡_, refl, sym}
 use mathlib.Core.Bool.{Bool, true, false, cond}
 use mathlib.Core.List.{List}
-use Prim.Native.Nat.{ℕ, suc, _+_, _*_, _/_, _≤_}
+use Prim.Native.Nat.{ℕ, suc, _+_, _*_, _≤_}
 use native.Mathlib.Omega.{arith}
 use lib.ListN.{length}
 use lib.Dec.{ltb}
@@ -22,6 +22,7 @@ use Rattle.lists.specs.declared.Listed.the-variants as L
 use Rattle.lists.specs.Calls as Lists
 use Rattle.attribution_parts.specs.Attribution.{caption, losses}
 use Rattle.attribution_losses.specs.Lists.{lossWords}
+use Rattle.attribution.specs.declared.Attributed.{Attributed}
 use Rattle.attribution.specs.declared.Attributed.the-variants as A
 use Rattle.attribution.specs.Calls as Attribution
 use Rattle.quote_blocks.specs.Quotes as Q
@@ -34,6 +35,7 @@ use Rattle.chain.specs.Post.{marksText}
 use Rattle.post.specs.declared.Posted.{Posted}
 use Rattle.post.specs.declared.Posted.the-variants as P
 use Rattle.post.specs.Calls as Post
+use Rattle.carve.specs.Counts.{Countable}
 use Rattle.carve.proofs.Losing.{losses-small, quote-losses-small}
 use Rattle.mark_tags.specs.Marks.{marks, merge, no-kinds, items, start}
 use Rattle.mark_writing.proofs.MarkWriting.{spans-few}
@@ -115,7 +117,7 @@ module _ (size lost words : ℕ) where
   unfolding Attribution.formatted
   attribution-by (C.Refused r) s m l b h = absurd (attribution-differ r h)
   attribution-by C.Fine s m l b h =
-      let many = passed A.Refused (A.Done size lost words) attribution-differ (ltb (l / 5) (length (losses s))) _ _ h in
+      let many = passed A.Refused (A.Done size lost words) attribution-differ (ltb l (length (losses s))) _ _ h in
       let long = passed A.Refused (A.Done size lost words) attribution-differ (ltb b (length (lossWords (losses s)))) _ _ (many .1) in
       let full = passed A.Refused (A.Done size lost words) attribution-differ (ltb m (length (caption s))) _ (A.Done (length (caption s)) (length (losses s)) (length (lossWords (losses s)))) (long .1) in
       let n = ltb-false m (length (caption s)) (full .0) in
@@ -158,7 +160,7 @@ module _ (size lost words : ℕ) where
   quotes-small text lent j b h =
       let x = cellsOf text in
       let d = quotes-by (checked text lent) _ h in
-      let s = quotes-by (Quotes.limited (Q.tooDeep x) (ltb (j / 5) (length (quoteLosses x))) (ltb b (length (lossBytes x)))) (Quotes.spaced x (lent .out)) (d .1) in
+      let s = quotes-by (Quotes.limited (Q.tooDeep x) (ltb j (length (quoteLosses x))) (ltb b (length (lossBytes x)))) (Quotes.spaced x (lent .out)) (d .1) in
       let r = spaced-small x (lent .out) (s .1) in
       let e = enough text lent (d .0) in
       let l = length-cellsOf text in
@@ -197,9 +199,23 @@ module _ (size lost words : ℕ) where
       let m = lent .out in
       let d = post-by (checked post lent) _ h in
       let f = passed P.Refused (P.Done size lost words) post-differ (ltb m (length x)) _ _ (d .1) in
-      let l = post-by (Quotes.limited (Q.tooDeep x) (ltb (j / 5) (length (quoteLosses x))) (ltb b (length (lossBytes x)))) (Post.quoting x m (length (quoteLosses x)) (length (lossBytes x))) (f .1) in
+      let l = post-by (Quotes.limited (Q.tooDeep x) (ltb j (length (quoteLosses x))) (ltb b (length (lossBytes x)))) (Post.quoting x m (length (quoteLosses x)) (length (lossBytes x))) (f .1) in
       let q = quoting-small x m (length (quoteLosses x)) (length (lossBytes x)) (l .1) in
       let n = ltb-false m (length x) (f .0) in
       let e = enough post lent (d .0) in
       let z = quote-losses-small x in
       (omega (arith, q .0, e .out), (omega (arith, q .1 .0, z .0, n, e .out), omega (arith, q .1 .1, z .1, n, e .out)))
+
+-- ---- what a report counts
+
+pub attribution-countable : (s : List ℕ) (lent : Lent) (l b : ℕ) (r : Attributed) → r ≡ Attribution.answered s lent l b → Countable (Attribution.countsOfAnswer r)
+attribution-countable s lent l b (A.Done size lost words) e = let z = attribution-small size lost words s lent l b (sym e) in (z .0, (omega (arith, z .1 .0, z .1 .1), (omega (arith, z .1 .0, z .1 .1), tt)))
+attribution-countable s lent l b (A.Refused r) e = (omega arith, (omega arith, (omega arith, tt)))
+
+pub quotes-countable : (text : List ℕ) (lent : Lent) (j b : ℕ) (r : Quoted) → r ≡ Quotes.answered text lent j b → Countable (Quotes.countsOfAnswer r)
+quotes-countable text lent j b (Qd.Done size lost words) e = let z = quotes-small size lost words text lent j b (sym e) in (z .0, (omega (arith, z .1 .0, z .1 .1), (omega (arith, z .1 .0, z .1 .1), tt)))
+quotes-countable text lent j b (Qd.Refused r) e = (omega arith, (omega arith, (omega arith, tt)))
+
+pub post-countable : (post : List ℕ) (lent : Lent) (j b : ℕ) (r : Posted) → r ≡ Post.answered post lent j b → Countable (Post.countsOfAnswer r)
+post-countable post lent j b (P.Done size lost words) e = let z = post-small size lost words post lent j b (sym e) in (z .0, (omega (arith, z .1 .0, z .1 .1), (omega (arith, z .1 .0, z .1 .1), tt)))
+post-countable post lent j b (P.Refused r) e = (omega arith, (omega arith, (omega arith, tt)))

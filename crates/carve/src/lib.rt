@@ -3,6 +3,7 @@
 use attribution::Attributed;
 use day::Dated;
 use lists::Listed;
+use losses::Loss;
 use marks::Marked;
 use post::Posted;
 use quotes::Quoted;
@@ -12,7 +13,7 @@ ghost use mathlib.Core.List.{[], _∷_};
 ghost use Prim.Native.Nat.{_≤_};
 ghost use lib.ListN.{length};
 ghost use Rattle.day.specs.Day.{numberOfAnswer, answer, output};
-ghost use Rattle.carve.specs.Counts.{dayCounts, ListsReport, MarksReport, AttributionReport, QuotesReport, PostReport};
+ghost use Rattle.carve.specs.Counts.{dayCounts, ListsReport, MarksReport, AttributionCountable, AttributionReported, AttributionReport, QuotesCountable, QuotesReported, QuotesReport, PostCountable, PostReported, PostReport};
 
 fn set_counts(counts: &mut [u32; 3], len: usize, number: usize, loss_bytes: usize)
     requires { ⌜ (len ≤ 4294967295) × ((number ≤ 4294967295) × («loss_bytes» ≤ 4294967295)) ⌝ }
@@ -90,13 +91,30 @@ pub extern "C" fn carve_marks(
     }
 }
 
+// What is reported of an answer to a call for an attribution.
+fn report_attribution(answer: Attributed, counts: &mut [u32; 3]) -> u32
+    requires { ⌜ AttributionCountable answer ⌝ }
+    ensures { λ r. ⌜ AttributionReported answer r (now (counts .exit)) ⌝ }
+{
+    match answer {
+        Attributed::Done(size, losses, bytes) => {
+            set_counts(counts, size, losses, bytes);
+            0
+        }
+        Attributed::Refused(r) => {
+            set_counts(counts, 0, 0, 0);
+            number_of(r)
+        }
+    }
+}
+
 // The caption of an attribution, and its losses.
 #[no_mangle]
 pub extern "C" fn carve_attribution(
     text: &[u8],
     out: &mut [u8],
     origins: &mut [u32],
-    records: &mut [u32],
+    records: &mut [Loss],
     loss_bytes: &mut [u8],
     work: &mut [u8],
     numbers: &mut [u32],
@@ -104,7 +122,7 @@ pub extern "C" fn carve_attribution(
 ) -> u32
     ensures { λ r. ⌜ AttributionReport (now (text .entry)) (length (now (out .entry))) (length (now (origins .entry))) (length (now (records .entry))) (length (now («loss_bytes» .entry))) (length (now (work .entry))) (length (now (numbers .entry))) r (now (out .exit)) (now (origins .exit)) (now (records .exit)) (now («loss_bytes» .exit)) (now (counts .exit)) ⌝ }
 {
-    let attributed = attribution::format_attribution(
+    let answer = attribution::format_attribution(
         text,
         out,
         origins,
@@ -113,12 +131,20 @@ pub extern "C" fn carve_attribution(
         work,
         numbers,
     );
-    match attributed {
-        Attributed::Done(size, losses, bytes) => {
+    report_attribution(answer, counts)
+}
+
+// What is reported of an answer to a call for quotes.
+fn report_quotes(answer: Quoted, counts: &mut [u32; 3]) -> u32
+    requires { ⌜ QuotesCountable answer ⌝ }
+    ensures { λ r. ⌜ QuotesReported answer r (now (counts .exit)) ⌝ }
+{
+    match answer {
+        Quoted::Done(size, losses, bytes) => {
             set_counts(counts, size, losses, bytes);
             0
         }
-        Attributed::Refused(r) => {
+        Quoted::Refused(r) => {
             set_counts(counts, 0, 0, 0);
             number_of(r)
         }
@@ -131,7 +157,7 @@ pub extern "C" fn carve_quotes(
     text: &[u8],
     out: &mut [u8],
     origins: &mut [u32],
-    records: &mut [u32],
+    records: &mut [Loss],
     loss_bytes: &mut [u8],
     work: &mut [u8],
     numbers: &mut [u32],
@@ -139,13 +165,21 @@ pub extern "C" fn carve_quotes(
 ) -> u32
     ensures { λ r. ⌜ QuotesReport (now (text .entry)) (length (now (out .entry))) (length (now (origins .entry))) (length (now (records .entry))) (length (now («loss_bytes» .entry))) (length (now (work .entry))) (length (now (numbers .entry))) r (now (out .exit)) (now (origins .exit)) (now (records .exit)) (now («loss_bytes» .exit)) (now (counts .exit)) ⌝ }
 {
-    let quoted = quotes::convert_quotes(text, out, origins, records, loss_bytes, work, numbers);
-    match quoted {
-        Quoted::Done(size, losses, bytes) => {
+    let answer = quotes::convert_quotes(text, out, origins, records, loss_bytes, work, numbers);
+    report_quotes(answer, counts)
+}
+
+// What is reported of an answer to a call for a whole post.
+fn report_post(answer: Posted, counts: &mut [u32; 3]) -> u32
+    requires { ⌜ PostCountable answer ⌝ }
+    ensures { λ r. ⌜ PostReported answer r (now (counts .exit)) ⌝ }
+{
+    match answer {
+        Posted::Done(size, losses, bytes) => {
             set_counts(counts, size, losses, bytes);
             0
         }
-        Quoted::Refused(r) => {
+        Posted::Refused(r) => {
             set_counts(counts, 0, 0, 0);
             number_of(r)
         }
@@ -158,7 +192,7 @@ pub extern "C" fn carve_post(
     text: &[u8],
     out: &mut [u8],
     origins: &mut [u32],
-    records: &mut [u32],
+    records: &mut [Loss],
     loss_bytes: &mut [u8],
     work: &mut [u8],
     numbers: &mut [u32],
@@ -166,15 +200,6 @@ pub extern "C" fn carve_post(
 ) -> u32
     ensures { λ r. ⌜ PostReport (now (text .entry)) (length (now (out .entry))) (length (now (origins .entry))) (length (now (records .entry))) (length (now («loss_bytes» .entry))) (length (now (work .entry))) (length (now (numbers .entry))) r (now (out .exit)) (now (origins .exit)) (now (records .exit)) (now («loss_bytes» .exit)) (now (counts .exit)) ⌝ }
 {
-    let posted = post::bbcode_to_carve(text, out, origins, records, loss_bytes, work, numbers);
-    match posted {
-        Posted::Done(size, losses, bytes) => {
-            set_counts(counts, size, losses, bytes);
-            0
-        }
-        Posted::Refused(r) => {
-            set_counts(counts, 0, 0, 0);
-            number_of(r)
-        }
-    }
+    let answer = post::bbcode_to_carve(text, out, origins, records, loss_bytes, work, numbers);
+    report_post(answer, counts)
 }

@@ -1,4 +1,4 @@
--- Laws of reading a list's value: what stands behind `[list=`. Assumes nothing.
+-- Laws of reading a list tag: the value behind `[list=`, and the first two bytes. Assumes nothing.
 use mathlib.Core.Path.{_≡_, refl, sym, ap, _∙_}
 use mathlib.Core.Bool.{Bool, true, false, cond, _&&_, true≢false}
 use mathlib.Core.List.{List, [], _∷_, _++_}
@@ -9,15 +9,15 @@ use native.Mathlib.Omega.{arith}
 use lib.ListN.{length, take, drop, getD, drop-of-length-le, length-drop}
 use lib.Seq.{drop-cons}
 use lib.Dec.{eqb, leb, ltb}
-use borrow.Author.Tests.{eq-eqb, ne-eqb, lt-ltb, le-ltb, eqb-true, eqb-false}
-use Rattle.text.specs.Ascii.{ascii, small, begins, toFirst, toBracket, isEmpty}
+use borrow.Author.Tests.{eq-eqb, ne-eqb, lt-ltb, le-ltb, eqb-true, eqb-false, leb-true}
+use Rattle.text.specs.Ascii.{ascii, inside, small, begins, toFirst, toBracket, isEmpty}
 use Rattle.text.specs.Cells.{Cell, cell, cells, bytes}
 use Rattle.text.specs.Lines.{trimStart, trimOnto, trimEnd, trim}
 use Rattle.text.proofs.Writing.{cells-at, cells-le, cells-short}
 use Rattle.text.proofs.Bytes.{first-within}
 use Rattle.list_blocks.specs.declared.tag.Tag.{Tag}
-use Rattle.list_blocks.specs.declared.tag.Tag.the-variants.{Opener, Plain}
-use Rattle.list_blocks.specs.Tags.{valueOf, isOne, valued, Skips}
+use Rattle.list_blocks.specs.declared.tag.Tag.the-variants.{Opener, Item, Closer, Plain}
+use Rattle.list_blocks.specs.Tags.{valueOf, isOne, valued, tagAt, Skips}
 
 -- ---- a value and its first cell
 
@@ -264,3 +264,102 @@ begins-long (a ∷ w) (b ∷ s) e = by (eqb (small b) a) (begins-long w s) e
 
 pub begins-six : (s : List ℕ) {b : Bool} → b ≡ begins (ascii "[list=") s → b ≡ true → 6 ≤ length s
 begins-six s q e = begins-long (ascii "[list=") s (sym q ∙ e)
+
+-- ---- the first two bytes of a tag
+
+small-open : (b : ℕ) → (b ≡ 91 → ⊥) → small b ≡ 91 → ⊥
+unfolding small inside
+small-open b n = by (leb 65 b) refl (leb b 90)
+  where
+    by : (s : Bool) → leb 65 b ≡ s → (t : Bool) → cond (s && t) (b + 32) b ≡ 91 → ⊥
+    by true e true h = let l = leb-true 65 b e in omega arith
+    by true e false h = n h
+    by false e t h = n h
+
+begins-first : (a : ℕ) (w s : List ℕ) → (small (getD s 0 0) ≡ a → ⊥) → begins (a ∷ w) s ≡ false
+unfolding begins
+begins-first a w [] n = refl
+begins-first a w (b ∷ s) n = rw (ne-eqb (small b) a n)
+
+begins-second : (a b : ℕ) (w s : List ℕ) → (small (getD s 1 0) ≡ b → ⊥) → begins (a ∷ b ∷ w) s ≡ false
+unfolding begins
+begins-second a b w [] n = refl
+begins-second a b w (c ∷ s) n = by (eqb (small c) a)
+  where
+    by : (t : Bool) → (t && begins (b ∷ w) s) ≡ false
+    by true = begins-first b w s n
+    by false = refl
+
+module _ (s : List ℕ) where
+  no-list : (small (getD s 1 0) ≡ 108 → ⊥) → begins (ascii "[list]") s ≡ false
+  no-list n = begins-second 91 108 (ascii "ist]") s n
+
+  no-valued : (small (getD s 1 0) ≡ 108 → ⊥) → begins (ascii "[list=") s ≡ false
+  no-valued n = begins-second 91 108 (ascii "ist=") s n
+
+  no-item : (small (getD s 1 0) ≡ 42 → ⊥) → begins (ascii "[*]") s ≡ false
+  no-item n = begins-second 91 42 (ascii "]") s n
+
+  no-closer : (small (getD s 1 0) ≡ 47 → ⊥) → begins (ascii "[/list]") s ≡ false
+  no-closer n = begins-second 91 47 (ascii "list]") s n
+
+-- a text that begins with another byte
+pub tag-none : (x : List Cell) → (getD (bytes x) 0 0 ≡ 91 → ⊥) → tagAt x ≡ Plain
+unfolding tagAt
+tag-none x n =
+    let k = small-open (getD (bytes x) 0 0) n in
+    rw (
+      begins-first 91 (ascii "list]") (bytes x) k,
+      begins-first 91 (ascii "list=") (bytes x) k,
+      begins-first 91 (ascii "*]") (bytes x) k,
+      begins-first 91 (ascii "/list]") (bytes x) k,
+    )
+
+module _ (bs ns : List ℕ) (h : length bs ≤ length ns) where
+  pub other-first : {b : ℕ} → b ≡ getD bs 0 0 → (b ≡ 91 → ⊥) → Plain ≡ tagAt (cells bs ns)
+  other-first q n = sym (tag-none (cells bs ns) (rw (cells-bytes bs ns h) (λ e. n (q ∙ e))))
+
+  -- behind `[` and the second letter of `[list`
+  pub second-letter : small (getD bs 1 0) ≡ 108 → {a b : Bool} → a ≡ begins (ascii "[list]") bs → a ≡ false → b ≡ begins (ascii "[list=") bs → b ≡ false → Plain ≡ tagAt (cells bs ns)
+  unfolding tagAt
+  second-letter e qa na qb nb =
+      rw (cells-bytes bs ns h, ← qa, na, ← qb, nb, no-item bs (λ k. omega (arith, e, k)), no-closer bs (λ k. omega (arith, e, k)))
+
+  module _ {second b : ℕ} (qs : second ≡ small b) (qb : b ≡ getD bs 1 0) where
+    second-is : small (getD bs 1 0) ≡ second
+    second-is = ap small (sym qb) ∙ sym qs
+
+    pub letter-is : second ≡ 108 → small (getD bs 1 0) ≡ 108
+    letter-is e = second-is ∙ e
+
+    module _ (e : second ≡ 42) {a : Bool} (q : a ≡ begins (ascii "[*]") bs) where
+      pub second-star : a ≡ true → Item ≡ tagAt (cells bs ns)
+      unfolding tagAt
+      second-star y =
+          let z = second-is in
+          rw (cells-bytes bs ns h, no-list bs (λ k. omega (arith, e, z, k)), no-valued bs (λ k. omega (arith, e, z, k)), ← q, y)
+
+      pub star-alone : a ≡ false → Plain ≡ tagAt (cells bs ns)
+      unfolding tagAt
+      star-alone n =
+          let z = second-is in
+          rw (cells-bytes bs ns h, no-list bs (λ k. omega (arith, e, z, k)), no-valued bs (λ k. omega (arith, e, z, k)), ← q, n, no-closer bs (λ k. omega (arith, e, z, k)))
+
+    module _ (e : second ≡ 47) {a : Bool} (q : a ≡ begins (ascii "[/list]") bs) where
+      pub second-slash : a ≡ true → Closer ≡ tagAt (cells bs ns)
+      unfolding tagAt
+      second-slash y =
+          let z = second-is in
+          rw (cells-bytes bs ns h, no-list bs (λ k. omega (arith, e, z, k)), no-valued bs (λ k. omega (arith, e, z, k)), no-item bs (λ k. omega (arith, e, z, k)), ← q, y)
+
+      pub slash-alone : a ≡ false → Plain ≡ tagAt (cells bs ns)
+      unfolding tagAt
+      slash-alone n =
+          let z = second-is in
+          rw (cells-bytes bs ns h, no-list bs (λ k. omega (arith, e, z, k)), no-valued bs (λ k. omega (arith, e, z, k)), no-item bs (λ k. omega (arith, e, z, k)), ← q, n)
+
+    pub other-second : (second ≡ 108 → ⊥) → (second ≡ 42 → ⊥) → (second ≡ 47 → ⊥) → Plain ≡ tagAt (cells bs ns)
+    unfolding tagAt
+    other-second l i c =
+        let z = second-is in
+        rw (cells-bytes bs ns h, no-list bs (λ k. l (sym z ∙ k)), no-valued bs (λ k. l (sym z ∙ k)), no-item bs (λ k. i (sym z ∙ k)), no-closer bs (λ k. c (sym z ∙ k)))

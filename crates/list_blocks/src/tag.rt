@@ -1,9 +1,12 @@
 // The list tags.
 use text::PostAt;
 use text::scan::begins_at;
+use text::scan::byte_at;
+use text::scan::small_of;
 ghost use mathlib.Core.Path.{_≡_};
 ghost use Prim.Native.Nat.{_≤_};
-ghost use lib.ListN.{length, drop};
+ghost use lib.ListN.{length, drop, getD};
+ghost use Rattle.text.specs.Ascii.{small};
 ghost use Rattle.text.specs.Cells.{cells};
 ghost use Rattle.list_blocks.specs.Tags.{Skips, valued, tagAt};
 
@@ -55,9 +58,9 @@ fn valued_at(src: &[u8], from: &[u32]) -> Tag
     Tag::Opener(end, true)
 }
 
-// The tag that a text begins with.
-pub fn tag_at(src: &[u8], from: &[u32]) -> Tag
-    requires { ⌜ length (now src) ≤ length (now from) ⌝ }
+// The tag that a text with the second letter of `[list` begins with.
+fn opener_at(src: &[u8], from: &[u32]) -> Tag
+    requires { ⌜ (length (now src) ≤ length (now from)) × (small (getD (now src) 1 0) ≡ 108) ⌝ }
     ensures { λ r. ⌜ r ≡ tagAt (cells (now (src .entry)) (now (from .entry))) ⌝ }
 {
     if begins_at(src, PostAt(0), b"[list]") {
@@ -66,11 +69,32 @@ pub fn tag_at(src: &[u8], from: &[u32]) -> Tag
     if begins_at(src, PostAt(0), b"[list=") {
         return valued_at(src, from);
     }
-    if begins_at(src, PostAt(0), b"[*]") {
-        return Tag::Item;
+    Tag::Plain
+}
+
+// The tag that a text begins with. The first two bytes say which one it can be.
+pub fn tag_at(src: &[u8], from: &[u32]) -> Tag
+    requires { ⌜ length (now src) ≤ length (now from) ⌝ }
+    ensures { λ r. ⌜ r ≡ tagAt (cells (now (src .entry)) (now (from .entry))) ⌝ }
+{
+    if byte_at(src, 0) != b'[' {
+        return Tag::Plain;
     }
-    if begins_at(src, PostAt(0), b"[/list]") {
-        return Tag::Closer;
+    let second = small_of(byte_at(src, 1));
+    if second == b'l' {
+        return opener_at(src, from);
+    }
+    if second == b'*' {
+        if begins_at(src, PostAt(0), b"[*]") {
+            return Tag::Item;
+        }
+        return Tag::Plain;
+    }
+    if second == b'/' {
+        if begins_at(src, PostAt(0), b"[/list]") {
+            return Tag::Closer;
+        }
+        return Tag::Plain;
     }
     Tag::Plain
 }

@@ -1,5 +1,6 @@
 pub mod ListsSplit
 pub mod Needs
+pub mod Texts
 pub mod Closing
 pub mod Tables
 pub mod Standings

@@ -1,7 +1,7 @@
--- Reading on behind a tag, the length of all open contents, and that the result fits the need. Assumes nothing.
+-- Reading on behind a tag, the length of all open contents, and that they and the result fit the need. Assumes nothing.
 use mathlib.Core.Path.{_≡_, refl}
 use mathlib.Core.List.{List, [], _∷_}
-use Prim.Native.Nat.{ℕ, zero, suc, _≤_}
+use Prim.Native.Nat.{ℕ, zero, suc, _+_, _≤_}
 use native.Mathlib.Omega.{arith}
 use lib.ListN.{length, drop, length-append}
 use Rattle.text.specs.Cells.{Cell}
@@ -27,7 +27,19 @@ unfolding outers held
 outers-held [] = refl
 outers-held (l ∷ ls) = simp length-append (omega (arith, outers-held ls, parts-size (l .parts)))
 
--- ---- the result is no longer than the need
+-- ---- the contents are no longer than the need
+
+finish-least : (now : List Cell) (ls : List Open) → held ls + length now ≤ finishNeed now ls
+unfolding finishNeed held
+finish-least now [] = omega arith
+finish-least now (l ∷ ls) = omega arith
+
+pub need-least : (ks : List Token) (s : State) → held (s .lists) + length (s .now) ≤ runNeed ks s
+unfolding runNeed
+need-least [] s = finish-least (s .now) (s .lists)
+need-least (k ∷ ks) s = omega arith
+
+-- ---- nor is the result
 
 finish-fits : (now : List Cell) (ls : List Open) → length (finish now ls) ≤ finishNeed now ls
 unfolding finish finishNeed

@@ -9,7 +9,7 @@ use lib.ListN.{length, take, drop, length-append, length-drop, length-map}
 use lib.Seq.{take-at, drop-at, take-take, drop-drop, length-slice, length-take-le, slice-empty}
 use lib.Dec.{ltb}
 use borrow.Author.Tests.{ltb-true}
-use Rattle.text.specs.Ascii.{ascii, begins, toBracket}
+use Rattle.text.specs.Ascii.{ascii, begins, is, toFirst, toBracket}
 use Rattle.text.specs.Cells.{Cell, cell, cells, bytes, part}
 use Rattle.text.specs.Lines.{trim}
 use Rattle.text.specs.Writes.{Holds}
@@ -20,10 +20,11 @@ use Rattle.list_blocks.specs.declared.tag.Tag.the-variants.{Opener, Item, Close
 use Rattle.list_blocks.specs.Tags.{Token, tagAt, valued, isOne, valueOf, tokenOf, restOf, tokens}
 use Rattle.list_blocks.specs.Blocks.{between}
 use Rattle.list_blocks.specs.Lists.{Open, State, nothing, close, started, closed, step, finish, run, lists, held, finishNeed, runNeed, listsNeed}
-use Rattle.list_steps.specs.Standing.{outers, contents, frames, Stands, Steps, Ready, closeInner, kept, stepBy, pushed, Running, Passed}
-use Rattle.list_steps.proofs.Needs.{tokens-skip, outers-held}
+use Rattle.list_steps.specs.Standing.{outers, contents, frames, Stands, Steps, Ready, closeInner, kept, stepBy, restWith, takeBy, pushed, Running, Passed}
+use Rattle.list_steps.proofs.Needs.{tokens-skip, outers-held, need-least}
+use Rattle.list_steps.proofs.Texts.{tail-bytes, more-run, more-need, take-with, rest-size, rest-least}
 use Rattle.list_steps.proofs.Standings.{stands-end, stands-text}
-use Rattle.list_blocks.proofs.Values.{begins-long}
+use Rattle.list_blocks.proofs.Values.{begins-long, cells-bytes}
 use Rattle.list_steps.proofs.Closes.{no-table}
 use Rattle.text.proofs.Sources.{cells-taken, cells-sub, part-take}
 use Rattle.list_steps.proofs.Steppings.{some-table}
@@ -35,16 +36,6 @@ sizeOf s = held (s .lists) + length (s .now)
 
 size-is : (s : State) → length (contents s) ≡ sizeOf s
 size-is s = length-append (outers (s .lists)) (s .now) ∙ ap (λ (k : ℕ). k + length (s .now)) (outers-held (s .lists))
-
-finish-least : (now : List Cell) (ls : List Open) → held ls + length now ≤ finishNeed now ls
-unfolding finishNeed held
-finish-least now [] = omega arith
-finish-least now (l ∷ ls) = omega arith
-
-need-least : (ks : List Token) (s : State) → sizeOf s ≤ runNeed ks s
-unfolding runNeed
-need-least [] s = finish-least (s .now) (s .lists)
-need-least (k ∷ ks) s = omega arith
 
 module _ (m : ℕ) (x before : List Cell) (bs ns : List ℕ) (base end at top first : ℕ) (second : Bool) (ks : List Token) (w : Running m x before bs ns end at top first second ks)
     (lb : length before ≡ base) (area : base + m ≡ end) (fit : at ≤ end) (hb : end ≤ length bs) (hn : end ≤ length ns) where
@@ -201,11 +192,11 @@ token-step Item c x s = refl
 token-step Closer c x s = refl
 token-step Plain c x s = refl
 
-step-take : (t : Tag) (z : List Cell) (k : ℕ) (s : State) → 1 + restOf t ≤ k → stepBy t (take k z) s ≡ stepBy t z s
-step-take (Opener n o) z k s h = refl
-step-take Item z k s h = ap (λ (l : List Cell). started l s (s .lists)) (take-take 3 k z h)
-step-take Closer z k s h = ap (λ (l : List Cell). closed l s (s .lists)) (take-take 7 k z h)
-step-take Plain z k s h = ap (λ (l : List Cell). kept l s) (take-take 1 k z h)
+step-take : (t : Tag) (z : List Cell) (n k : ℕ) (s : State) → 1 + restWith t n ≤ k → takeBy t n (take k z) s ≡ takeBy t n z s
+step-take (Opener m o) z n k s h = refl
+step-take Item z n k s h = ap (λ (l : List Cell). started l s (s .lists)) (take-take 3 k z h)
+step-take Closer z n k s h = ap (λ (l : List Cell). closed l s (s .lists)) (take-take 7 k z h)
+step-take Plain z n k s h = ap (λ (l : List Cell). kept l s) (take-take (n + 1) k z (omega arith))
 
 turn-run : (y : List Cell) → 0 < length y → (s : State) → run (tokens 0 y) s ≡ run (tokens 0 (drop (suc (restOf (tagAt y))) y)) (stepBy (tagAt y) y s)
 unfolding tokens run
@@ -225,7 +216,8 @@ turn-need (c ∷ x) h s =
 module _ (m : ℕ) (x before : List Cell) (bs ns : List ℕ) (base end at top first : ℕ) (second : Bool) (i e : ℕ)
     (w : Running m x before bs ns end at top first second (tokens 0 (part i e before)))
     (lb : length before ≡ base) (area : base + m ≡ end) (fit : at ≤ end) (hb : end ≤ length bs) (hn : end ≤ length ns) (lt : i < e) (le : e ≤ base)
-    (tag : Tag) (q : tag ≡ tagAt (cells (take (e - i) (drop i bs)) (take (e - i) (drop i ns)))) where
+    (tag : Tag) (q : tag ≡ tagAt (cells (take (e - i) (drop i bs)) (take (e - i) (drop i ns))))
+    (n : ℕ) (qn : n ≡ restWith tag (toFirst (is "[") (drop 1 (take (e - i) (drop i bs))))) where
   base-at : base ≤ at
   base-at =
       let n = stands-end before bs ns end at top first second (w .state) (w .holds) fit hb hn in
@@ -254,44 +246,63 @@ module _ (m : ℕ) (x before : List Cell) (bs ns : List ℕ) (base end at top fi
   unfolding part
   rest-length = length-slice i e before (omega arith)
 
-  pub turn-size : (i + (1 + restOf tag) ≤ e) × (pushed tag ≤ 1 + restOf tag)
+  rest-bytes : bytes (part i e before) ≡ take (e - i) (drop i bs)
+  rest-bytes =
+      let b = base-at in
+      let lb' : length (take (e - i) (drop i bs)) ≡ e - i = length-take-le (e - i) (drop i bs) (let k = length-drop i bs in omega arith) in
+      let ln' : length (take (e - i) (drop i ns)) ≡ e - i = length-take-le (e - i) (drop i ns) (let k = length-drop i ns in omega arith) in
+      ap bytes (rest-is ∙ sym (cells-sub bs ns i (e - i))) ∙ cells-bytes (take (e - i) (drop i bs)) (take (e - i) (drop i ns)) (omega arith)
+
+  -- the text behind the first cell
+  abbrev more : ℕ
+  more = toFirst (is "[") (bytes (drop 1 (part i e before)))
+
+  size-with : n ≡ restWith tag more
+  size-with = qn ∙ ap (λ (l : List ℕ). restWith tag (toFirst (is "[") l)) (ap (drop 1) (sym rest-bytes) ∙ sym (tail-bytes (part i e before)))
+
+  pub turn-size : (i + (1 + n) ≤ e) × ((restOf tag ≤ n) × (pushed tag ≤ 1 + n))
   turn-size =
-      let n = rest-length in
+      let l = rest-length in
+      let z = size-with in
       let s = tag-size (part i e before) (omega arith) in
-      rw tag-is (omega (arith, s .0), s .1)
+      let g : 1 + restWith tag more ≤ length (part i e before) = rest-size tag (part i e before) (omega arith) (rw tag-is (s .0)) in
+      let r = rest-least tag more in
+      let p : pushed tag ≤ 1 + restOf tag = rw tag-is (s .1) in
+      (omega (arith, l, z, g), (omega (arith, z, r), omega (arith, z, r, p)))
 
-  next-is : drop (suc (restOf tag)) (part i e before) ≡ part (i + restOf tag + 1) e before
+  next-is : drop (suc n) (part i e before) ≡ part (i + n + 1) e before
   unfolding part
-  next-is = drop-drop (suc (restOf tag)) i (take e before) ∙ (let n : i + suc (restOf tag) ≡ i + restOf tag + 1 = omega arith in ap (λ (k : ℕ). drop k (take e before)) n)
+  next-is = drop-drop (suc n) i (take e before) ∙ (let m : i + suc n ≡ i + n + 1 = omega arith in ap (λ (k : ℕ). drop k (take e before)) m)
 
-  next : State
-  next = stepBy tag (drop i (cells bs ns)) (w .state)
-
-  same-step : stepBy (tagAt (part i e before)) (part i e before) (w .state) ≡ stepBy tag (drop i (cells bs ns)) (w .state)
+  same-step : takeBy (tagAt (part i e before)) more (part i e before) (w .state) ≡ takeBy tag n (drop i (cells bs ns)) (w .state)
   same-step =
       let z = turn-size .0 in
-      rw (← tag-is, rest-is) (step-take tag (drop i (cells bs ns)) (e - i) (w .state) (omega arith))
+      let k : 1 + restWith tag more ≤ e - i = (let y = size-with in omega (arith, y, z)) in
+      rw (← tag-is, ap (λ (l : List Cell). takeBy tag more l (w .state)) rest-is) (step-take tag (drop i (cells bs ns)) more (e - i) (w .state) k)
+      ∙ sym (take-with more (w .state) tag (drop i (cells bs ns))) ∙ ap (λ (j : ℕ). takeBy tag j (drop i (cells bs ns)) (w .state)) (sym size-with)
 
-  goes : run (tokens 0 (part i e before)) (w .state) ≡ run (tokens 0 (part (i + restOf tag + 1) e before)) (stepBy tag (drop i (cells bs ns)) (w .state))
+  goes : run (tokens 0 (part i e before)) (w .state) ≡ run (tokens 0 (part (i + n + 1) e before)) (takeBy tag n (drop i (cells bs ns)) (w .state))
   goes =
-      let n = rest-length in
-      turn-run (part i e before) (omega arith) (w .state) ∙ rw (same-step, ← tag-is, next-is)
+      let l = rest-length in
+      turn-run (part i e before) (omega arith) (w .state) ∙ more-run more (w .state) (tagAt (part i e before)) (part i e before) (omega arith) (omega arith)
+      ∙ rw (same-step, ← tag-is, ← size-with, next-is)
 
-  needed : runNeed (tokens 0 (part i e before)) (w .state) ≡ max (sizeOf (w .state)) (runNeed (tokens 0 (part (i + restOf tag + 1) e before)) (stepBy tag (drop i (cells bs ns)) (w .state)))
+  needed : runNeed (tokens 0 (part i e before)) (w .state) ≡ max (sizeOf (w .state)) (runNeed (tokens 0 (part (i + n + 1) e before)) (takeBy tag n (drop i (cells bs ns)) (w .state)))
   needed =
-      let n = rest-length in
-      turn-need (part i e before) (omega arith) (w .state) ∙ rw (same-step, ← tag-is, next-is)
+      let l = rest-length in
+      turn-need (part i e before) (omega arith) (w .state)
+      ∙ ap (max (sizeOf (w .state))) (more-need more (w .state) (tagAt (part i e before)) (part i e before) (omega arith) (omega arith) ∙ rw (same-step, ← tag-is, ← size-with, next-is))
 
-  module _ (bs' ns' : List ℕ) (at' top' first' : ℕ) (second' : Bool) (p : Steps (stepBy tag (drop i (cells bs ns))) base bs ns end at top first second bs' ns' at' top' first' second') where
-    pub turn-goes : Running m x before bs' ns' end at' top' first' second' (tokens 0 (part (i + restOf tag + 1) e before))
+  module _ (bs' ns' : List ℕ) (at' top' first' : ℕ) (second' : Bool) (p : Steps (takeBy tag n (drop i (cells bs ns))) base bs ns end at top first second bs' ns' at' top' first' second') where
+    pub turn-goes : Running m x before bs' ns' end at' top' first' second' (tokens 0 (part (i + n + 1) e before))
     turn-goes =
-        goes-on m x before bs ns base end at top first second (tokens 0 (part i e before)) w lb area fit hb hn _ (stepBy tag (drop i (cells bs ns)) (w .state)) goes needed
+        goes-on m x before bs ns base end at top first second (tokens 0 (part i e before)) w lb area fit hb hn _ (takeBy tag n (drop i (cells bs ns)) (w .state)) goes needed
         bs' ns' at' top' first' second' (p .step before (w .state) lb (w .holds))
 
     pub turn-over : end ≤ length bs' → end ≤ length ns' → end < at' → m < listsNeed x
     turn-over =
-        overflows m x before bs ns base end at top first second (tokens 0 (part i e before)) w lb area fit hb hn (tokens 0 (part (i + restOf tag + 1) e before))
-        (stepBy tag (drop i (cells bs ns)) (w .state)) goes needed bs' ns' at' top' first' second' (p .step before (w .state) lb (w .holds))
+        overflows m x before bs ns base end at top first second (tokens 0 (part i e before)) w lb area fit hb hn (tokens 0 (part (i + n + 1) e before))
+        (takeBy tag n (drop i (cells bs ns)) (w .state)) goes needed bs' ns' at' top' first' second' (p .step before (w .state) lb (w .holds))
 
 -- ---- the whole
 

@@ -130,6 +130,20 @@ stepBy Item y s = started (take 3 y) s (s .lists)
 stepBy Closer y s = closed (take 7 y) s (s .lists)
 stepBy Plain y s = kept (take 1 y) s
 
+-- how many cells are taken with the first: a tag's others, or the text before the next `[`, which is `more` cells behind it
+abbrev pub restWith : Tag → (more : ℕ) → ℕ
+restWith (Opener n o) more = n
+restWith Item more = 2
+restWith Closer more = 6
+restWith Plain more = more
+
+-- a tag, or this text at once
+abbrev pub takeBy : Tag → (more : ℕ) → (y : List Cell) → State → State
+takeBy (Opener n o) more y = stepBy (Opener n o) y
+takeBy Item more y = stepBy Item y
+takeBy Closer more y = stepBy Closer y
+takeBy Plain more y = kept (take (more + 1) y)
+
 -- how many lists are open behind a tag, where depth are open before it
 abbrev pub depthBy : Tag → (depth : ℕ) → ℕ
 depthBy (Opener n o) depth = depth + 1

@@ -4,13 +4,15 @@ use crate::close::close_list;
 use crate::step::step;
 use list_blocks::tag::Tag;
 use list_blocks::tag::tag_at;
+use text::PostAt;
+use text::scan::next_byte;
 ghost use mathlib.Core.Path.{_≡_};
 ghost use mathlib.Core.List.{List, []};
-ghost use Prim.Native.Nat.{_+_, _-_, _≤_};
-ghost use lib.ListN.{length};
+ghost use Prim.Native.Nat.{_+_, _-_, _≤_, _<_};
+ghost use lib.ListN.{length, drop};
+ghost use Rattle.text.specs.Ascii.{is, toFirst};
 ghost use Rattle.text.specs.Cells.{Cell, cells, part};
-ghost use Rattle.list_blocks.specs.Tags.{restOf};
-ghost use Rattle.list_steps.specs.Standing.{Ready, Running, Passed};
+ghost use Rattle.list_steps.specs.Standing.{Ready, Running, Passed, restWith};
 
 // The place past every slice's end.
 const FULL: usize = 0xffff_ffff_ffff_ffff;
@@ -41,15 +43,25 @@ fn finish_lists(
     st.at
 }
 
-// How many cells a tag has behind its first.
-pub fn rest_of(tag: Tag) -> usize
-    ensures { λ r. ⌜ r ≡ restOf tag ⌝ }
+// How many cells of a text stand behind its first and before the next `[`.
+fn text_behind(src: &[u8]) -> usize
+    requires { ⌜ 0 < length (now src) ⌝ }
+    ensures { λ r. ⌜ r ≡ toFirst (is "[") (drop 1 (now (src .entry))) ⌝ }
+{
+    let next = next_byte(src, PostAt(1), b'[');
+    next.0 - 1
+}
+
+// How many cells are taken with the first of a text: the others of the tag that it begins with, or the text before the next one.
+pub fn rest_of(tag: Tag, src: &[u8]) -> usize
+    requires { ⌜ 0 < length (now src) ⌝ }
+    ensures { λ r. ⌜ r ≡ restWith tag (toFirst (is "[") (drop 1 (now (src .entry)))) ⌝ }
 {
     match tag {
         Tag::Opener(n, _) => n,
         Tag::Item => 2,
         Tag::Closer => 6,
-        Tag::Plain => 0,
+        Tag::Plain => text_behind(src),
     }
 }
 
@@ -77,8 +89,8 @@ pub fn list_pass(
     let mut i = a;
     while i < e {
         let tag = tag_at(&work[i..e], &numbers[i..e]);
-        let n = rest_of(tag);
-        st = step(tag, i, st, base, end, work, numbers, out, origins);
+        let n = rest_of(tag, &work[i..e]);
+        st = step(tag, n, i, st, base, end, work, numbers, out, origins);
         let at = st.at;
         if end < at {
             return FULL;

@@ -1,4 +1,4 @@
-// One tag or one cell of text.
+// One tag, or the text before the next one.
 use crate::close::Machine;
 use crate::close::close_list;
 use list_blocks::tag::Tag;
@@ -12,7 +12,7 @@ ghost use lib.ListN.{length, take, drop};
 ghost use Rattle.text.specs.Cells.{Cell, cells};
 ghost use Rattle.list_blocks.specs.Tags.{restOf};
 ghost use Rattle.list_blocks.specs.declared.tag.Tag.the-variants.{Opener, Item, Closer, Plain};
-ghost use Rattle.list_steps.specs.Standing.{Ready, Steps, kindOf, kept, stepBy, pushed};
+ghost use Rattle.list_steps.specs.Standing.{Ready, Steps, kindOf, kept, stepBy, takeBy, pushed};
 
 // Appends n cells of the source to the innermost content.
 fn keep(
@@ -125,9 +125,10 @@ fn end_list(
     close_list(st, base, end, work, numbers, out, origins)
 }
 
-// Takes one tag, or one cell of text, at place i of the source.
+// Takes n cells behind the first, at place i of the source: one tag, or text.
 pub fn step(
     tag: Tag,
+    n: usize,
     i: usize,
     st: Machine,
     base: usize,
@@ -137,13 +138,13 @@ pub fn step(
     out: &mut [u8],
     origins: &mut [u32],
 ) -> Machine
-    requires { ⌜ Ready (now work) (now numbers) base end (st .at) (st .top) (st .first) (st .second) × ((i + (1 + restOf tag) ≤ base) × ((st .top + pushed tag ≤ length (now numbers)) × ((base + length (now out) ≡ end) × (length (now out) ≤ length (now origins))))) ⌝ }
-    ensures { λ r. ⌜ Steps (stepBy tag (drop i (cells (now (work .entry)) (now (numbers .entry))))) base (now (work .entry)) (now (numbers .entry)) end (st .at) (st .top) (st .first) (st .second) (now (work .exit)) (now (numbers .exit)) (r .at) (r .top) (r .first) (r .second) × (r .top ≤ st .top + pushed tag) ⌝ }
+    requires { ⌜ Ready (now work) (now numbers) base end (st .at) (st .top) (st .first) (st .second) × (((i + (1 + n) ≤ base) × (restOf tag ≤ n)) × ((st .top + pushed tag ≤ length (now numbers)) × ((base + length (now out) ≡ end) × (length (now out) ≤ length (now origins))))) ⌝ }
+    ensures { λ r. ⌜ Steps (takeBy tag n (drop i (cells (now (work .entry)) (now (numbers .entry))))) base (now (work .entry)) (now (numbers .entry)) end (st .at) (st .top) (st .first) (st .second) (now (work .exit)) (now (numbers .exit)) (r .at) (r .top) (r .first) (r .second) × (r .top ≤ st .top + pushed tag) ⌝ }
 {
     match tag {
         Tag::Opener(_, ordered) => open_list(ordered, st, numbers),
         Tag::Item => start_item(i, st, base, end, work, numbers),
         Tag::Closer => end_list(i, st, base, end, work, numbers, out, origins),
-        Tag::Plain => keep(i, 1, st, base, end, work, numbers),
+        Tag::Plain => keep(i, n + 1, st, base, end, work, numbers),
     }
 }

@@ -1,12 +1,12 @@
 -- Laws of the listing. Assumes nothing.
 use mathlib.Core.Path.{_≡_, refl, sym, ap, _∙_}
 use mathlib.Core.Bool.{Bool, true, false, cond}
-use Prim.Native.Nat.{ℕ, suc, _+_, _-_, _/_, _≤_, _<_, min}
+use Prim.Native.Nat.{ℕ, suc, _+_, _-_, _≤_, _<_, min}
 use native.Mathlib.Numerals.{add-one}
 use native.Mathlib.Omega.{arith}
 use mathlib.Core.List.{List, [], _∷_, _++_, map, append-assoc, append-nil}
 use lib.ListN.{length, take, drop, getD, drop-of-length-le, length-drop}
-use lib.Seq.{drop-cons, take-all, take-nil}
+use lib.Seq.{drop-cons, take-all, take-nil, length-take-le, getD-take}
 use native.Mathlib.Decide.{decLe}
 use lib.Dec.{eqb}
 use borrow.Author.Tests.{eq-eqb}
@@ -15,6 +15,8 @@ use Rattle.text.specs.Cells.{Cell, cells, sign}
 use Rattle.text.specs.Decimal.{decimal}
 use Rattle.text.specs.Writes.{Appends}
 use Rattle.text.proofs.Writing.{appends-then}
+use Rattle.losses.specs.declared.Loss.{Loss}
+use Rattle.losses.specs.Records.{noLoss}
 use Rattle.listing.specs.Listing.{escapedByte, escaped, copied, line, field, loss, lossLines, sizes, counts, listing, Adds}
 
 -- ---- bytes appended one behind the other
@@ -90,12 +92,12 @@ pub adds-counts : (size origin losses : ℕ) {v v₁ v₂ v₃ : List Cell} {a a
 unfolding counts
 adds-counts size origin losses p q r = adds-three (line (ascii "result=") (decimal 0)) (sizes size origin) (line (ascii "losses=") (decimal losses)) p q r
 
-pub adds-listing : (text os rs ws : List ℕ) (n : ℕ) {v v₁ v₂ v₃ : List Cell} {a a₁ a₂ a₃ : ℕ} → n ≡ copied os
-    → Appends v a v₁ a₁ (map sign (counts (length text) n (length rs / 5))) → Appends v₁ a₁ v₂ a₂ (map sign (lossLines ws rs))
+pub adds-listing : (text os : List ℕ) (rs : List Loss) (ws : List ℕ) (n count : ℕ) {v v₁ v₂ v₃ : List Cell} {a a₁ a₂ a₃ : ℕ} → n ≡ copied os → count ≡ length rs
+    → Appends v a v₁ a₁ (map sign (counts (length text) n count)) → Appends v₁ a₁ v₂ a₂ (map sign (lossLines ws rs))
     → Appends v₂ a₂ v₃ a₃ (map sign (line (ascii "text=") (escaped text))) → Appends v a v₃ a₃ (map sign (listing text os rs ws))
 unfolding listing
-adds-listing text os rs ws n e p q r =
-    adds-three (counts (length text) (copied os) (length rs / 5)) (lossLines ws rs) (line (ascii "text=") (escaped text)) (rw e at p) q r
+adds-listing text os rs ws n count e f p q r =
+    adds-three (counts (length text) (copied os) (length rs)) (lossLines ws rs) (line (ascii "text=") (escaped text)) (rw (e, f) at p) q r
 
 -- ---- the losses
 
@@ -126,33 +128,19 @@ pub adds-field : (start size a e : ℕ) (ws : List ℕ) {v v₁ : List Cell} {at
     → Appends v at v₁ at₁ (map sign (line (ascii "field=") (escaped (take (e - a) (drop a ws))))) → Appends v at v₁ at₁ (map sign (line (ascii "field=") (escaped (field start size ws))))
 adds-field start size a e ws p q r = rw (field-part start size a e ws p q) at r
 
-next : (rs : List ℕ) (i k : ℕ) → i + k < length rs → drop (i + k) rs ≡ getD rs (i + k) 0 ∷ drop (i + suc k) rs
-next rs i k h = let e : i + suc k ≡ suc (i + k) = omega arith in rw e (drop-cons rs (i + k) 0 h)
-
-five : (rs : List ℕ) (i : ℕ) → i + 5 ≤ length rs
-    → drop i rs ≡ getD rs i 0 ∷ getD rs (i + 1) 0 ∷ getD rs (i + 2) 0 ∷ getD rs (i + 3) 0 ∷ getD rs (i + 4) 0 ∷ drop (i + 5) rs
-five rs i h =
-    let first : drop i rs ≡ getD rs i 0 ∷ drop (i + 1) rs = rw add-one (drop-cons rs i 0 (omega arith)) in
-    rw (first, next rs i 1 (omega arith), next rs i 2 (omega arith), next rs i 3 (omega arith), next rs i 4 (omega arith))
-
-pub losses-turn : (ws rs : List ℕ) (i : ℕ) → i + 5 ≤ length rs
-    → map sign (lossLines ws (drop i rs))
-    ≡ map sign (loss (getD rs i 0) (getD rs (i + 1) 0) (getD rs (i + 2) 0) (field (getD rs (i + 3) 0) (getD rs (i + 4) 0) ws)) ++ map sign (lossLines ws (drop (i + 5) rs))
+pub losses-turn : (ws : List ℕ) (rs : List Loss) (count i : ℕ) → i < count → count ≤ length rs
+    → map sign (lossLines ws (drop i (take count rs)))
+    ≡ map sign (loss (getD rs i noLoss .quote) (getD rs i noLoss .line) (getD rs i noLoss .unnamed) (field (getD rs i noLoss .start) (getD rs i noLoss .length) ws)) ++ map sign (lossLines ws (drop (i + 1) (take count rs)))
 unfolding lossLines
-losses-turn ws rs i h =
-    rw (five rs i h) (signs-append (loss (getD rs i 0) (getD rs (i + 1) 0) (getD rs (i + 2) 0) (field (getD rs (i + 3) 0) (getD rs (i + 4) 0) ws)) (lossLines ws (drop (i + 5) rs)))
+losses-turn ws rs count i h few =
+    let l = length-take-le count rs few in
+    let e : drop i (take count rs) ≡ getD rs i noLoss ∷ drop (i + 1) (take count rs) =
+    rw add-one (drop-cons (take count rs) i noLoss (omega (arith, l)) ∙ ap (λ (x : Loss). x ∷ drop (suc i) (take count rs)) (getD-take count rs i noLoss h)) in
+    rw e (signs-append (loss (getD rs i noLoss .quote) (getD rs i noLoss .line) (getD rs i noLoss .unnamed) (field (getD rs i noLoss .start) (getD rs i noLoss .length) ws)) (lossLines ws (drop (i + 1) (take count rs))))
 
-few : (ws rs : List ℕ) → length rs < 5 → lossLines ws rs ≡ []
+pub losses-end : (ws : List ℕ) (rs : List Loss) (count i : ℕ) → count ≤ i → count ≤ length rs → map sign (lossLines ws (drop i (take count rs))) ≡ []
 unfolding lossLines
-few ws [] h = refl
-few ws (a ∷ []) h = refl
-few ws (a ∷ b ∷ []) h = refl
-few ws (a ∷ b ∷ c ∷ []) h = refl
-few ws (a ∷ b ∷ c ∷ d ∷ []) h = refl
-few ws (a ∷ b ∷ c ∷ d ∷ e ∷ rs) h = absurd (omega arith)
-
-pub losses-end : (ws rs : List ℕ) (i : ℕ) → length rs < i + 5 → map sign (lossLines ws (drop i rs)) ≡ []
-losses-end ws rs i h = rw (few ws (drop i rs) (rw (length-drop i rs) (omega arith)))
+losses-end ws rs count i h few = let l = length-take-le count rs few in rw (drop-of-length-le (take count rs) {i = i} (omega (arith, l)))
 
 -- ---- origins counted
 

@@ -3,13 +3,13 @@
 --   copied os       "copied (non-zero origins)": how many of the origins are not 0
 --   line k v        one of the "key=value lines", where k ends with `=`
 --   loss ..         "four lines a loss"
---   lossLines ws r  these of the loss records r, five numbers a record, whose fields stand in the loss bytes ws
+--   lossLines ws r  these of the loss records r, whose fields stand in the loss bytes ws
 --   sizes ..        the lines of a text's length, and of how many of its bytes are copied and written
 --   counts ..       the lines before the losses
 --   listing ..      the listing of a converted post: its text, origins, loss records and loss bytes
 --   Adds .. s       the bytes s have been appended to a pair of slices, with no origins
 -- Assumes nothing.
-use Prim.Native.Nat.{ℕ, suc, _+_, _-_, _/_}
+use Prim.Native.Nat.{ℕ, suc, _+_, _-_}
 use mathlib.Core.Bool.{Bool, cond}
 use mathlib.Core.List.{List, [], _∷_, _++_, map}
 use lib.ListN.{length, take, drop}
@@ -18,6 +18,7 @@ use Rattle.text.specs.Ascii.{ascii, is}
 use Rattle.text.specs.Cells.{cells, sign}
 use Rattle.text.specs.Decimal.{decimal}
 use Rattle.text.specs.Writes.{Appends}
+use Rattle.losses.specs.declared.Loss.{Loss}
 
 -- one byte of it
 unfoldable pub escapedByte : ℕ → List ℕ
@@ -42,13 +43,9 @@ unfoldable pub loss : (quote lineNumber unnamed : ℕ) → (name : List ℕ) →
 loss quote lineNumber unnamed name =
     line (ascii "quote=") (decimal quote) ++ line (ascii "line=") (decimal lineNumber) ++ line (ascii "unnamed=") (decimal unnamed) ++ line (ascii "field=") (escaped name)
 
-unfoldable pub lossLines : (ws records : List ℕ) → List ℕ
-lossLines ws (quote ∷ at ∷ unnamed ∷ start ∷ size ∷ records) = loss quote at unnamed (field start size ws) ++ lossLines ws records
-lossLines ws (quote ∷ at ∷ unnamed ∷ start ∷ []) = []
-lossLines ws (quote ∷ at ∷ unnamed ∷ []) = []
-lossLines ws (quote ∷ at ∷ []) = []
-lossLines ws (quote ∷ []) = []
+unfoldable pub lossLines : (ws : List ℕ) → (records : List Loss) → List ℕ
 lossLines ws [] = []
+lossLines ws (x ∷ records) = loss (x .quote) (x .line) (x .unnamed) (field (x .start) (x .length) ws) ++ lossLines ws records
 
 -- "length, copied (non-zero origins), written (length less copied)"
 unfoldable pub sizes : (size origin : ℕ) → List ℕ
@@ -57,9 +54,9 @@ sizes size origin = line (ascii "length=") (decimal size) ++ line (ascii "copied
 unfoldable pub counts : (size origin losses : ℕ) → List ℕ
 counts size origin losses = line (ascii "result=") (decimal 0) ++ sizes size origin ++ line (ascii "losses=") (decimal losses)
 
-unfoldable pub listing : (text os records ws : List ℕ) → List ℕ
+unfoldable pub listing : (text os : List ℕ) → (records : List Loss) → (ws : List ℕ) → List ℕ
 listing text os records ws =
-    counts (length text) (copied os) (length records / 5) ++ lossLines ws records ++ line (ascii "text=") (escaped text)
+    counts (length text) (copied os) (length records) ++ lossLines ws records ++ line (ascii "text=") (escaped text)
 
 abbrev pub Adds : (bs ns : List ℕ) (at : ℕ) (bs' ns' : List ℕ) (at' : ℕ) (s : List ℕ) → Type 0
 Adds bs ns at bs' ns' at' s = Appends (cells bs ns) at (cells bs' ns') at' (map sign s)

@@ -1,4 +1,5 @@
 // What the program `thread` lists of a converted post. A listing is appended to a pair of slices, as every text is; its bytes have no origins.
+use losses::Loss;
 use text::TextAt;
 use text::write::put_decimal;
 use text::write::put_sign;
@@ -6,7 +7,7 @@ ghost use mathlib.Core.Path.{_≡_};
 ghost use Prim.Native.Nat.{_≤_, min};
 ghost use mathlib.Core.Bool.{cond};
 ghost use lib.Dec.{eqb};
-ghost use lib.ListN.{length};
+ghost use lib.ListN.{length, take};
 ghost use Rattle.text.specs.Ascii.{ascii};
 ghost use Rattle.text.specs.Decimal.{decimal};
 ghost use Rattle.listing.specs.Listing.{escapedByte, escaped, copied, line, field, loss, lossLines, sizes, counts, listing, Adds};
@@ -116,26 +117,34 @@ fn put_loss(
     put_field(start, size, words, buf, nums, z)
 }
 
-// Appends the lines of all losses.
-fn put_losses(records: &[u32], words: &[u8], buf: &mut [u8], nums: &mut [u32], at: TextAt) -> TextAt
-    requires { ⌜ length (now records) ≤ 4294967295 ⌝ }
-    ensures { λ r. ⌜ Adds (now (buf .entry)) (now (nums .entry)) (at .0) (now (buf .exit)) (now (nums .exit)) (r .0) (lossLines (now (words .entry)) (now (records .entry))) ⌝ }
+// Appends the lines of the first `count` losses.
+fn put_losses(
+    records: [Loss; 64],
+    count: usize,
+    words: &[u8],
+    buf: &mut [u8],
+    nums: &mut [u32],
+    at: TextAt,
+) -> TextAt
+    requires { ⌜ (count ≤ 64) × (length records ≡ 64) ⌝ }
+    ensures { λ r. ⌜ Adds (now (buf .entry)) (now (nums .entry)) (at .0) (now (buf .exit)) (now (nums .exit)) (r .0) (lossLines (now (words .entry)) (take count records)) ⌝ }
 {
     let mut i: usize = 0;
     let mut to = at;
-    while i + 5 <= records.len() {
+    while i < count {
+        let x = records[i];
         to = put_loss(
-            records[i],
-            records[i + 1],
-            records[i + 2],
-            records[i + 3],
-            records[i + 4],
+            x.quote,
+            x.line,
+            x.unnamed,
+            x.start,
+            x.length,
             words,
             buf,
             nums,
             to,
         );
-        i += 5;
+        i += 1;
     }
     to
 }
@@ -167,29 +176,23 @@ fn put_counts(
     put_number(b"losses=", losses, buf, nums, y)
 }
 
-// Appends the listing of a converted post: its text with its origins, its loss records and loss bytes.
+// Appends the listing of a converted post: its text with its origins, its first `count` loss records and its loss bytes.
 pub fn put_listing(
     text: &[u8],
     origins: &[u32],
-    records: &[u32],
+    records: [Loss; 64],
+    count: usize,
     words: &[u8],
     buf: &mut [u8],
     nums: &mut [u32],
     at: TextAt,
 ) -> TextAt
-    requires { ⌜ (length (now text) ≡ length (now origins)) × ((length (now text) ≤ 16777216) × (length (now records) ≤ 4294967295)) ⌝ }
-    ensures { λ r. ⌜ Adds (now (buf .entry)) (now (nums .entry)) (at .0) (now (buf .exit)) (now (nums .exit)) (r .0) (listing (now (text .entry)) (now (origins .entry)) (now (records .entry)) (now (words .entry))) ⌝ }
+    requires { ⌜ (length (now text) ≡ length (now origins)) × ((length (now text) ≤ 16777216) × ((count ≤ 64) × (length records ≡ 64))) ⌝ }
+    ensures { λ r. ⌜ Adds (now (buf .entry)) (now (nums .entry)) (at .0) (now (buf .exit)) (now (nums .exit)) (r .0) (listing (now (text .entry)) (now (origins .entry)) (take count records) (now (words .entry))) ⌝ }
 {
     let n = count_copied(origins);
-    let x = put_counts(
-        text.len() as u32,
-        n as u32,
-        (records.len() / 5) as u32,
-        buf,
-        nums,
-        at,
-    );
-    let y = put_losses(records, words, buf, nums, x);
+    let x = put_counts(text.len() as u32, n as u32, count as u32, buf, nums, at);
+    let y = put_losses(records, count, words, buf, nums, x);
     put_line(b"text=", text, buf, nums, y)
 }
 

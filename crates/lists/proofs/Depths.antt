@@ -3,19 +3,22 @@ use mathlib.Core.Path.{_≡_, refl, sym, ap, _∙_}
 use mathlib.Core.Bool.{Bool, true, false, _||_}
 use mathlib.Core.List.{List, [], _∷_}
 use Prim.Native.Nat.{ℕ, zero, suc, _+_, _-_, _≤_, _<_}
+use native.Mathlib.Nat.{not-suc-le-zero}
 use native.Mathlib.Numerals.{add-one}
 use native.Mathlib.Omega.{arith}
 use lib.ListN.{length, take, drop, drop-of-length-le, length-drop}
-use lib.Seq.{take-all, drop-drop}
+use lib.Seq.{take-all, drop-drop, length-take-le}
 use lib.Dec.{leb, ltb}
 use borrow.Author.Tests.{lt-leb, le-leb}
-use Rattle.text.specs.Cells.{Cell, cells}
+use Rattle.text.specs.Ascii.{is, toFirst}
+use Rattle.text.specs.Cells.{Cell, cells, bytes}
 use Rattle.list_blocks.specs.declared.tag.Tag.{Tag}
 use Rattle.list_blocks.specs.declared.tag.Tag.the-variants.{Opener, Item, Closer, Plain}
 use Rattle.list_blocks.specs.Tags.{Token, tagAt, tokenOf, restOf, tokens, depthAfter, overLimit, deeper, tooDeep}
-use Rattle.list_steps.specs.Standing.{depthBy}
+use Rattle.list_steps.specs.Standing.{restWith, depthBy}
 use Rattle.list_steps.proofs.Needs.{tokens-skip}
-use Rattle.list_blocks.proofs.Values.{cells-length}
+use Rattle.list_steps.proofs.Texts.{tokens-text, tail-bytes, rest-size}
+use Rattle.list_blocks.proofs.Values.{cells-length, cells-bytes}
 use Rattle.text.proofs.Sources.{cells-sub}
 use Rattle.list_steps.proofs.Runs.{tag-size}
 
@@ -51,29 +54,59 @@ deeper-under (c ∷ x) d h le =
     rw (limit-under (tagAt (c ∷ x)) c x d le, depth-after (tagAt (c ∷ x)) c x d)
     (ap (λ (ks : List Token). deeper (depthBy (tagAt (c ∷ x)) d) ks) (tokens-skip (restOf (tagAt (c ∷ x))) x))
 
+-- text opens no list
+deeper-more : (t : Tag) (k : ℕ) (y : List Cell) (d : ℕ) → 0 < length y → k ≤ toFirst (is "[") (bytes (drop 1 y))
+    → deeper d (tokens 0 (drop (suc (restOf t)) y)) ≡ deeper d (tokens 0 (drop (suc (restWith t k)) y))
+unfolding deeper depthAfter
+deeper-more (Opener n o) k y d h g = refl
+deeper-more Item k y d h g = refl
+deeper-more Closer k y d h g = refl
+deeper-more Plain k [] d h g = absurd (not-suc-le-zero h)
+deeper-more Plain k (c ∷ x) d h g = tokens-text (deeper d) k x g (λ b y. refl)
+
 module _ (bs ns : List ℕ) (h : length bs ≤ length ns) (i d : ℕ) (lt : i < length bs) (tag : Tag)
-    (q : tag ≡ tagAt (cells (take (length bs - i) (drop i bs)) (take (length bs - i) (drop i ns)))) where
+    (q : tag ≡ tagAt (cells (take (length bs - i) (drop i bs)) (take (length bs - i) (drop i ns))))
+    (n : ℕ) (qn : n ≡ restWith tag (toFirst (is "[") (drop 1 (take (length bs - i) (drop i bs))))) where
   left : length (drop i (cells bs ns)) ≡ length bs - i
   left = length-drop i (cells bs ns) ∙ (let l = cells-length bs ns h in omega arith)
 
-  tag-is : tag ≡ tagAt (drop i (cells bs ns))
-  tag-is = q ∙ ap tagAt (cells-sub bs ns i (length bs - i) ∙ take-all (length bs - i) (drop i (cells bs ns)) (let l = left in omega arith))
+  rest-is : cells (take (length bs - i) (drop i bs)) (take (length bs - i) (drop i ns)) ≡ drop i (cells bs ns)
+  rest-is = cells-sub bs ns i (length bs - i) ∙ take-all (length bs - i) (drop i (cells bs ns)) (let l = left in omega arith)
 
-  pub depth-size : i + (1 + restOf tag) ≤ length bs
+  tag-is : tag ≡ tagAt (drop i (cells bs ns))
+  tag-is = q ∙ ap tagAt rest-is
+
+  rest-bytes : bytes (drop i (cells bs ns)) ≡ take (length bs - i) (drop i bs)
+  rest-bytes =
+      let b : length (take (length bs - i) (drop i bs)) ≡ length bs - i = length-take-le (length bs - i) (drop i bs) (let k = length-drop i bs in omega arith) in
+      let c : length (take (length bs - i) (drop i ns)) ≡ length bs - i = length-take-le (length bs - i) (drop i ns) (let k = length-drop i ns in omega arith) in
+      ap bytes (sym rest-is) ∙ cells-bytes (take (length bs - i) (drop i bs)) (take (length bs - i) (drop i ns)) (omega arith)
+
+  -- the text behind the first cell
+  abbrev more : ℕ
+  more = toFirst (is "[") (bytes (drop 1 (drop i (cells bs ns))))
+
+  size-with : n ≡ restWith tag more
+  size-with = qn ∙ ap (λ (l : List ℕ). restWith tag (toFirst (is "[") l)) (ap (drop 1) (sym rest-bytes) ∙ sym (tail-bytes (drop i (cells bs ns))))
+
+  pub depth-size : i + (1 + n) ≤ length bs
   depth-size =
       let l = left in
+      let z = size-with in
       let s = tag-size (drop i (cells bs ns)) (omega arith) .0 in
-      rw tag-is (omega (arith, s))
+      let g : 1 + restWith tag more ≤ length (drop i (cells bs ns)) = rest-size tag (drop i (cells bs ns)) (omega arith) (rw tag-is s) in
+      omega (arith, l, z, g)
 
   pub depth-over : d ≤ 64 → 64 < depthBy tag d → deeper d (tokens 0 (drop i (cells bs ns))) ≡ true
   depth-over le far = let l = left in deeper-over (drop i (cells bs ns)) d (omega arith) le (rw tag-is at far)
 
-  pub depth-goes : depthBy tag d ≤ 64 → deeper d (tokens 0 (drop i (cells bs ns))) ≡ deeper (depthBy tag d) (tokens 0 (drop (i + restOf tag + 1) (cells bs ns)))
+  pub depth-goes : depthBy tag d ≤ 64 → deeper d (tokens 0 (drop i (cells bs ns))) ≡ deeper (depthBy tag d) (tokens 0 (drop (i + n + 1) (cells bs ns)))
   depth-goes le =
       let l = left in
-      let n : i + suc (restOf tag) ≡ i + restOf tag + 1 = omega arith in
+      let z : i + suc n ≡ i + n + 1 = omega arith in
       deeper-under (drop i (cells bs ns)) d (omega arith) (rw tag-is at le)
-      ∙ rw (← tag-is, drop-drop (suc (restOf tag)) i (cells bs ns), n)
+      ∙ deeper-more (tagAt (drop i (cells bs ns))) more (drop i (cells bs ns)) (depthBy (tagAt (drop i (cells bs ns))) d) (omega arith) (omega arith)
+      ∙ rw (← tag-is, ← size-with, drop-drop (suc n) i (cells bs ns), z)
 
 pub depth-start : (x : List Cell) → tooDeep x ≡ deeper 0 (tokens 0 x)
 unfolding tooDeep

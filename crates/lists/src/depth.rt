@@ -43,7 +43,7 @@ pub fn too_deep(src: &[u8], from: &[u32]) -> bool
     let mut i: usize = 0;
     while i < n {
         let tag = tag_at(&src[i..n], &from[i..n]);
-        let size = rest_of(tag);
+        let size = rest_of(tag, &src[i..n]);
         depth = depth_after(tag, depth);
         if LISTS_MOST < depth {
             return true;

@@ -6,13 +6,14 @@ use mathlib.Core.Option.{Option, none, some}
 use mathlib.Core.List.{List, [], _∷_, _++_, append-nil, append-assoc}
 use Prim.Native.Nat.{ℕ, zero, suc, _+_, _-_, _%_, _≤_, _<_}
 use native.Mathlib.Numerals.{add-one}
+use native.Mathlib.Nat.{le-of-suc-le-suc, not-suc-le-zero}
 use native.Mathlib.Omega.{arith}
 use native.Mathlib.Decide.{decLe}
 use lib.Dec.{eqb, eqb→eq, T}
 use lib.ListN.{length, take, drop, getD, drop-of-length-le, List·getD-eq-default, length-map, length-take, length-drop}
 use lib.Seq.{drop-cons, drop-drop, drop-append-le, drop-at, take-suc, take-add, length-take-le}
 use borrow.Author.Tests.{eqb-true}
-use Rattle.text.specs.Ascii.{is}
+use Rattle.text.specs.Ascii.{is, toFirst}
 use Rattle.text.specs.Cells.{Cell, bytes, part}
 use Rattle.mark_tags.specs.Marks.{Kind, bold, italic, underline, strike, same, Tag, opener, closer, kindOf, tagOf, tagOfBytes, tagAt, more, Tokens, last, cut, onto, token, scan, ends}
 use Rattle.mark_tags.specs.Flat.{kindNumber, kindNumbered, tagNumber}
@@ -104,6 +105,21 @@ pub tag-fits : (s : List ℕ) (t : Tag) → tagAt s ≡ some t → suc (more (so
 tag-fits s t e = fits-by s (tagAt s) t e (ended s)
 
 -- ---- scanning
+
+-- no byte before the first that p holds of passes
+pub first-passed : (p : ℕ → Bool) (s : List ℕ) (k : ℕ) → k < toFirst p s → p (getD s k 0) ≡ false
+unfolding toFirst
+first-passed p [] k h = absurd (not-suc-le-zero h)
+first-passed p (b ∷ s) zero h = by (p b) refl h
+  where
+    by : (t : Bool) → p b ≡ t → 0 < cond t 0 (suc (toFirst p s)) → p b ≡ false
+    by true e g = absurd (not-suc-le-zero g)
+    by false e g = e
+first-passed p (b ∷ s) (suc k) h = by (p b) h (first-passed p s k)
+  where
+    by : (t : Bool) → suc k < cond t 0 (suc (toFirst p s)) → (k < toFirst p s → p (getD s k 0) ≡ false) → p (getD s k 0) ≡ false
+    by true g r = absurd (not-suc-le-zero g)
+    by false g r = r (le-of-suc-le-suc g)
 
 scan-skip : (k : ℕ) (x : List Cell) → scan k x ≡ scan 0 (drop k x)
 unfolding scan

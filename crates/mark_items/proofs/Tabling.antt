@@ -1,6 +1,6 @@
 -- Laws of the items held in numbers, and of the loop that reads a text's tags into them. Assumes nothing.
 use mathlib.Core.Path.{_≡_, refl, sym, ap, ap₂, _∙_}
-use mathlib.Core.Bool.{Bool, true, false, cond}
+use mathlib.Core.Bool.{Bool, true, false, cond, true≢false}
 use mathlib.Core.Option.{Option, none, some}
 use mathlib.Core.List.{List, [], _∷_, _++_, append-nil, append-assoc}
 use Prim.Native.Nat.{ℕ, zero, suc, _+_, _-_, _*_, _%_, _≤_, _<_}
@@ -10,13 +10,17 @@ use native.Mathlib.Omega.{arith}
 use native.Mathlib.Decide.{decLe}
 use lib.Dec.{eqb}
 use lib.ListN.{length, take, drop, getD, set, length-set, length-map, length-drop, drop-of-length-le}
-use lib.Seq.{getD-set-same, getD-set-other, take-set-le, drop-cons}
+use lib.Seq.{getD-set-same, getD-set-other, take-set-le, drop-cons, getD-drop}
+use borrow.Author.Tests.{eq-eqb}
+use Rattle.text.specs.Ascii.{toFirst}
 use Rattle.text.specs.Cells.{Cell, bytes, part}
+use Rattle.text.proofs.Bytes.{first-within}
 use Rattle.text.proofs.Writing.{part-none}
 use Rattle.mark_tags.specs.Marks.{Kind, Tag, opener, closer, tagAt, more, Tokens, cut, scan, ends, after}
 use Rattle.mark_tags.specs.Flat.{Flat, piece, rawTag, raws, flatOf, codeAt, boundAt, flatAt, flats, stackOf, withItem, Bounded, Tagged, tagNumber, kindNumbered}
+use Rattle.mark_tags.proofs.TagNumbers.{no-tag}
 use Rattle.mark_pieces.proofs.Pieces.{bytes-drop}
-use Rattle.mark_items.proofs.Scanning.{Opens, Closes, fronted, fronted-none, scan-plain, scan-tag, tag-fits}
+use Rattle.mark_items.proofs.Scanning.{Opens, Closes, first-passed, fronted, fronted-none, scan-plain, scan-tag, tag-fits}
 
 -- ---- items by their numbers
 
@@ -234,6 +238,22 @@ module _ (text ns₀ ns : List ℕ) (i j depth : ℕ) (h : i < length text) (m :
         }
 
 -- ---- the arms of that loop
+
+-- bytes before the next `[`
+reading-run : (text ns₀ ns : List ℕ) (i j depth k : ℕ) → k ≤ toFirst (λ x. eqb x 91) (drop i text) → i + k ≤ length text → Reading text ns₀ ns i j depth → Reading text ns₀ ns (i + k) j depth
+reading-run text ns₀ ns i j depth zero h l m = rw (add-zero i) m
+reading-run text ns₀ ns i j depth (suc k) h l m =
+    let z : i + suc k ≡ i + k + 1 = omega arith in
+    let n : getD text (i + k) 0 ≡ 91 → ⊥ = λ e. true≢false (sym (eq-eqb (getD text (i + k) 0) 91 e) ∙ ap (λ (b : ℕ). eqb b 91) (sym (getD-drop i text k 0)) ∙ first-passed (λ x. eqb x 91) (drop i text) k h) in
+    rw z (reading-on text ns₀ ns (i + k) j depth (omega arith) (reading-run text ns₀ ns i j depth k (omega arith) (omega arith) m) (no-tag text (i + k) n))
+
+-- a byte that begins no tag, and those before the next `[`
+pub reading-past : (text ns₀ ns : List ℕ) (i j depth r : ℕ) → i < length text → tagAt (drop i text) ≡ none → r ≡ i + 1 + toFirst (λ x. eqb x 91) (drop (i + 1) text) → Reading text ns₀ ns i j depth → Reading text ns₀ ns r j depth
+reading-past text ns₀ ns i j depth r h t e m =
+    let k = toFirst (λ x. eqb x 91) (drop (i + 1) text) in
+    let w = first-within (λ x. eqb x 91) (drop (i + 1) text) in
+    let l = length-drop (i + 1) text in
+    rw e (reading-run text ns₀ ns (i + 1) j depth k (omega arith) (omega arith) (reading-on text ns₀ ns i j depth h m t))
 
 -- the end of the text: the last piece
 pub reading-end : (text ns₀ ns : List ℕ) (i j depth : ℕ) → length text ≤ i → 4 * length text + 4 ≤ length ns → Reading text ns₀ ns i j depth → Tagged text ns₀ (withItem ns (length text) j (length text) 0) (j + 1)

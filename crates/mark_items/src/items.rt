@@ -2,6 +2,8 @@
 // and from 3n + 3 on a stack. Codes: 0 text, 1 a tag that vanishes, 2 the end of a mark's slot, 4 to 7 the start of a mark (by kind),
 // 8 to 11 an opener of which it is not known yet whether it is closed.
 use mark_tags::tags::tag_at;
+use text::PostAt;
+use text::scan::next_byte;
 ghost use mathlib.Core.Path.{_≡_};
 ghost use mathlib.Core.List.{[]};
 ghost use Prim.Native.Nat.{_+_, _*_, _≤_, _<_};
@@ -72,7 +74,7 @@ pub fn read_tags(text: &[u8], nums: &mut [u32]) -> usize
     while i < n {
         let tag = tag_at(text, i);
         if tag == 0 {
-            i += 1;
+            i = next_byte(text, PostAt(i + 1), b'[').0;
         } else {
             let code = code_of(&nums[..], n, depth, tag);
             let w = width_of(tag);

@@ -7,7 +7,8 @@ use native.Mathlib.Numerals.{add-one}
 use native.Mathlib.Omega.{arith}
 use lib.Dec.{eqb}
 use lib.ListN.{length, take, drop, getD, set, length-append, length-set, length-take, take-append-drop, drop-of-length-le}
-use lib.Seq.{slice-cons, slice-empty, take-take, take-set-le, take-set-lt, drop-set-lt, getD-take, getD-set-same, take-append-seam, drop-append-seam, length-take-le}
+use lib.Seq.{slice-cons, slice-empty, take-suc, drop-append-le, take-take, take-set-le, take-set-lt, drop-set-lt, getD-take, getD-set-same, take-append-seam, drop-append-seam, length-take-le}
+use borrow.Author.Tests.{eq-eqb, ne-eqb}
 use Rattle.text.specs.Ascii.{is, isEmpty}
 use Rattle.text.specs.Cells.{Cell, cell, cells, part, bytes, sign}
 use Rattle.text.specs.Writes.{Holds, Appends}
@@ -18,14 +19,43 @@ use Rattle.mark_tags.specs.Flat.{evenRun, Inserts}
 
 -- ---- runs of backslashes
 
-pub even-turn : (s : List ℕ) (i e : ℕ) (even : Bool) → i < e → e ≤ length s
-    → evenRun (not (eqb (getD s i 0) 92 && even)) (drop (i + 1) (take e s)) ≡ evenRun even (drop i (take e s))
+even-snoc : (even : Bool) (s : List ℕ) (b : ℕ) → evenRun even (s ++ (b ∷ [])) ≡ not (eqb b 92 && evenRun even s)
 unfolding evenRun
-even-turn s i e even h k = rw (slice-cons i e s 0 h k, add-one)
+even-snoc even [] b = refl
+even-snoc even (x ∷ s) b = even-snoc (not (eqb x 92 && even)) s b
 
-pub even-end : (s : List ℕ) (i e : ℕ) (even : Bool) → e ≤ i → evenRun even (drop i (take e s)) ≡ even
+-- of a run that `even` says of what stands behind it
+abbrev pub with : (even run : Bool) → Bool
+with true run = run
+with false run = not run
+
+with-true : (even : Bool) → with even true ≡ even
+with-true true = refl
+with-true false = refl
+
+with-not : (even run : Bool) → with (not even) run ≡ with even (not run)
+with-not true run = refl
+with-not false true = refl
+with-not false false = refl
+
+pub even-none : (s : List ℕ) (a i : ℕ) (even : Bool) → i ≤ a → with even (evenRun true (drop a (take i s))) ≡ even
 unfolding evenRun
-even-end s i e even h = let m = length-take e s in rw (drop-of-length-le (take e s) {i = i} (omega arith))
+even-none s a i even h = let m = length-take i s in rw (drop-of-length-le (take i s) {i = a} (omega arith)) (with-true even)
+
+module _ (s : List ℕ) (a i : ℕ) (even : Bool) (h : a < i) (k : i ≤ length s) where
+  even-last : evenRun true (drop a (take i s)) ≡ not (eqb (getD s (i - 1) 0) 92 && evenRun true (drop a (take (i - 1) s)))
+  even-last =
+      let z : i ≡ suc (i - 1) = omega arith in
+      let l = length-take-le (i - 1) s (omega arith) in
+      let t : take i s ≡ take (i - 1) s ++ (getD s (i - 1) 0 ∷ []) = ap (λ (n : ℕ). take n s) z ∙ take-suc s (i - 1) 0 (omega arith) in
+      ap (evenRun true) (ap (drop a) t ∙ drop-append-le a (take (i - 1) s) (getD s (i - 1) 0 ∷ []) (omega arith))
+      ∙ even-snoc true (drop a (take (i - 1) s)) (getD s (i - 1) 0)
+
+  pub even-other : (getD s (i - 1) 0 ≡ 92 → ⊥) → with even (evenRun true (drop a (take i s))) ≡ even
+  even-other n = rw (even-last, ne-eqb (getD s (i - 1) 0) 92 n) (with-true even)
+
+  pub even-turn : getD s (i - 1) 0 ≡ 92 → with (not even) (evenRun true (drop a (take (i - 1) s))) ≡ with even (evenRun true (drop a (take i s)))
+  even-turn e = rw (even-last, eq-eqb (getD s (i - 1) 0) 92 e) (with-not even (evenRun true (drop a (take (i - 1) s))))
 
 not-empty : (p : List Cell) (c : Cell) → isEmpty (p ++ (c ∷ [])) ≡ false
 not-empty [] c = refl

@@ -1,7 +1,8 @@
 // The class of a byte, by a table; and the test for the braced form.
+use text::scan::byte_at;
 ghost use mathlib.Core.Path.{_≡_};
 ghost use Prim.Native.Nat.{_≤_};
-ghost use Rattle.mark_tags.specs.Marks.{class, classNumber, braced};
+ghost use Rattle.mark_tags.specs.Marks.{braced};
 
 // 0 other, 1 word, 2 space.
 const CLASS: [u8; 256] = [
@@ -263,25 +264,16 @@ const CLASS: [u8; 256] = [
     0,
 ];
 
-// 256 stands where there is no character.
-pub fn class_of(x: usize) -> u8
-    requires { ⌜ x ≤ 256 ⌝ }
-    ensures { λ r. ⌜ r ≡ classNumber (class x) ⌝ }
-{
-    if x == 256 {
-        return 0;
-    }
-    CLASS[x]
-}
-
+// 256 stands where there is no character. A table is made anew wherever its name stands: here once for the four classes.
 pub fn is_braced(d: usize, first: usize, last: usize, before: usize, next: usize) -> bool
     requires { ⌜ (first ≤ 256) × (last ≤ 256) × (before ≤ 256) × (next ≤ 256) ⌝ }
     ensures { λ r. ⌜ r ≡ braced d first last before next ⌝ }
 {
-    let a = class_of(first);
-    let b = class_of(last);
-    let c = class_of(before);
-    let e = class_of(next);
+    let table = CLASS;
+    let a = byte_at(&table, first);
+    let b = byte_at(&table, last);
+    let c = byte_at(&table, before);
+    let e = byte_at(&table, next);
     (a == 2)
         | (b == 2)
         | (first == d)

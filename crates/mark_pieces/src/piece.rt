@@ -19,10 +19,13 @@ pub fn is_even(s: &[u8], a: usize, e: usize) -> bool
     ensures { λ r. ⌜ r ≡ evenRun true (drop a (take e (now (s .entry)))) ⌝ }
 {
     let mut even = true;
-    let mut i = a;
-    while i < e {
-        even = !((s[i] == b'\\') & even);
-        i += 1;
+    let mut i = e;
+    while a < i {
+        if s[i - 1] != b'\\' {
+            return even;
+        }
+        even = !even;
+        i -= 1;
     }
     even
 }

@@ -7,6 +7,7 @@ use native.Mathlib.Nat.{add-zero}
 use native.Mathlib.Omega.{arith}
 use lib.ListN.{drop, getD}
 use lib.Seq.{getD-drop}
+use borrow.Author.Tests.{ne-eqb}
 use Rattle.mark_tags.specs.Marks.{Kind, bold, italic, underline, strike, Tag, opener, closer, tagOf, tagOfBytes, tagAt}
 use Rattle.mark_tags.specs.Flat.{kindNumber, kindNumbered, letterNumber, tagNumber}
 
@@ -38,3 +39,8 @@ no-number t (some k) r e h = absurd (let s = kind-small k in omega arith)
 pub tag-at : (s : List ℕ) (i : ℕ) → tagAt (drop i s) ≡ tagOfBytes (getD s i 0) (getD s (i + 1) 0) (getD s (i + 2) 0) (getD s (i + 3) 0)
 unfolding tagAt
 tag-at s i = simp (getD-drop, add-zero)
+
+-- no tag begins with another byte than `[`
+pub no-tag : (s : List ℕ) (i : ℕ) → (getD s i 0 ≡ 91 → ⊥) → tagAt (drop i s) ≡ none
+unfolding tagOfBytes
+no-tag s i h = tag-at s i ∙ rw (ne-eqb (getD s i 0) 91 h)

@@ -50,8 +50,12 @@ pub fn tag_at(s: &[u8], i: usize) -> u32
     requires { ⌜ i < length (now s) ⌝ }
     ensures { λ r. ⌜ r ≡ tagNumber (tagAt (drop i (now (s .entry)))) ⌝ }
 {
+    let a = s[i];
+    if a != b'[' {
+        return 0;
+    }
     tag_of(
-        s[i],
+        a,
         text::scan::byte_at(s, i + 1),
         text::scan::byte_at(s, i + 2),
         text::scan::byte_at(s, i + 3),

@@ -2,14 +2,14 @@
 use mathlib.Core.Path.{_≡_, refl, sym, ap, _∙_}
 use mathlib.Core.Bool.{Bool, true, false, cond}
 use mathlib.Core.List.{List, [], _∷_, _++_}
-use Prim.Native.Nat.{ℕ, _+_, _-_, _*_, _/_, _≤_, _<_}
+use Prim.Native.Nat.{ℕ, _+_, _-_, _*_, _≤_, _<_}
 use native.Mathlib.Omega.{arith}
 use native.Mathlib.Decide.{decLe}
-use lib.ListN.{length, take, replicate, length-map}
-use lib.Seq.{length-take-le, take-at}
+use lib.ListN.{length, take, replicate, length-map, length-append}
+use lib.Seq.{length-take-le, take-at, take-append-le}
 use lib.Dec.{ltb}
 use borrow.Author.Tests.{lt-ltb, le-ltb}
-use Rattle.text.specs.Cells.{Cell, cells, bytes, origins}
+use Rattle.text.specs.Cells.{Cell, cells, cellsOf, bytes, origins}
 use Rattle.text.specs.Writes.{Holds, cleared, padded, LaidOut}
 use Rattle.text.specs.Origins.{CopiedByOrigin}
 use Rattle.text.specs.Lent.{checked}
@@ -19,29 +19,33 @@ use Rattle.text.specs.declared.lent.Lent.{Lent}
 use Rattle.text.specs.declared.lent.Checked.{Checked}
 use Rattle.text.specs.declared.lent.Checked.the-variants as C
 use Rattle.text.proofs.Clearing.{laid-cleared}
+use Rattle.text.proofs.Copying.{length-cellsOf}
 use Rattle.text.proofs.Writing.{cells-le, cells-short, holds-fits}
+use Rattle.losses.specs.declared.Loss.{Loss}
+use Rattle.losses.specs.Records.{recordsLent}
 use Rattle.attribution_parts.specs.Attribution.{caption}
 use Rattle.quote_blocks.specs.Quotes as Quotes
 use Rattle.quote_blocks.proofs.QuotesFit.{quotes-fit}
 use Rattle.quotes.specs.Losses.{quoteLosses, lossBytes, lossRecords}
-use Rattle.quotes.specs.Calls.{limited, Filled, Listed}
+use Rattle.quotes.specs.Calls.{limited, Filled, Spelled}
 use Rattle.list_blocks.specs.Tags as ListTags
 use Rattle.list_blocks.specs.Lists.{lists, listsNeed}
 use Rattle.list_steps.proofs.Needs.{lists-fits}
 use Rattle.post_steps.specs.Fills.{Stands, Fills, Lays}
 use Rattle.chain.specs.Post.{marksText, quotedText, finished, Consumed}
-use Rattle.post.specs.Calls.{listing, quoting, marked, converted, answered, answerBy, ifDone, Ends, Copied}
+use Rattle.post.specs.Calls.{listing, quoting, marked, converted, answered, answerBy, Called, Copied, lossesBy, Noted, Ends, Numbered}
 use Rattle.post.specs.declared.Posted.{Posted}
 use Rattle.post.specs.declared.Posted.the-variants.{Done, Refused}
 use Rattle.chain.proofs.Chain.{finished-copied}
+use Rattle.post.proofs.MarksLength.{marks-short}
 
 -- ---- what a call leaves
 
-module _ {t : List Cell} {rs ws : List ℕ} {m k j b : ℕ} {wanted l : Posted} {out plain records words : List ℕ} where
-  pub ends-refused : (r : Refusal) → wanted ≡ Refused r → l ≡ Refused r → Filled [] [] [] m k j b out plain records words → Ends t rs ws m k j b wanted l out plain records words
+module _ {t : List Cell} {ws : List ℕ} {m k b : ℕ} {wanted l : Posted} {out plain words : List ℕ} where
+  pub ends-refused : (r : Refusal) → wanted ≡ Refused r → l ≡ Refused r → Filled [] [] m k b out plain words → Ends t ws m k b wanted l out plain words
   ends-refused r e g f = rw (e, g) (record { answer = refl; filled = f })
 
-  pub ends-as : {else : Posted} → Ends t rs ws m k j b else l out plain records words → wanted ≡ else → Ends t rs ws m k j b wanted l out plain records words
+  pub ends-as : {else : Posted} → Ends t ws m k b else l out plain words → wanted ≡ else → Ends t ws m k b wanted l out plain words
   ends-as {else} p e = record { answer = p .answer ∙ sym e; filled = p .filled }
 
 pub cleared-taken : (n : ℕ) (xs : List ℕ) (m : ℕ) → n ≤ length xs → length xs ≡ m → cleared n xs ≡ padded m (take n xs)
@@ -64,12 +68,12 @@ module _ (x : List Cell) (m a w : ℕ) where
         let over : m < listsNeed x = elim (decLe (listsNeed x) m) [ yes g ↦ absurd (let f = lists-fits x in let e = p .fits g .0 in omega arith) | no g ↦ omega arith ] in
         rw (fine, lt-ltb m (listsNeed x) over)
 
-    pub listing-done : {j b : ℕ} {rs ws records words : List ℕ} → r ≤ m → records ≡ padded j rs → words ≡ padded b ws → Ends (lists x) rs ws m k j b (listing x m a w) (Done r a w) out plain records words
+    pub listing-done : {b : ℕ} {ws words : List ℕ} → r ≤ m → words ≡ padded b ws → Ends (lists x) ws m k b (listing x m a w) (Done r a w) out plain words
     unfolding listing
-    listing-done h er ew =
+    listing-done h ew =
         let g = lists-in h in
         let f = p .fits g in
-        record { answer = rw (fine, le-ltb m (listsNeed x) g, f .0); filled = record { laid = f .1; listed = er; spelled = ew } }
+        record { answer = rw (fine, le-ltb m (listsNeed x) g, f .0); filled = record { laid = f .1; spelled = ew } }
 
 -- ---- quotes
 
@@ -93,10 +97,10 @@ module _ (x : List Cell) (m a w r : ℕ) (bs ns : List ℕ) (p : Fills m (Quotes
 
 -- ---- losses
 
-pub marked-by : (x : List Cell) (m j b j' b' losses words : ℕ) (deep : Bool) → j' ≡ j → b' ≡ b → deep ≡ Quotes.tooDeep x → losses ≡ length (quoteLosses x) → words ≡ length (lossBytes x)
-    → marked x m j b ≡ answerBy (limited deep (ltb (j' / 5) losses) (ltb b' words)) (quoting x m losses words)
+pub marked-by : (x : List Cell) (m j b b' losses words : ℕ) (deep : Bool) → b' ≡ b → deep ≡ Quotes.tooDeep x → losses ≡ length (quoteLosses x) → words ≡ length (lossBytes x)
+    → marked x m j b ≡ answerBy (limited deep (ltb j losses) (ltb b' words)) (quoting x m losses words)
 unfolding marked
-marked-by x m j b j' b' losses words deep ej eb d l w = rw (ej, eb, d, l, w)
+marked-by x m j b b' losses words deep eb d l w = rw (eb, d, l, w)
 
 pub answer-refused : (c : Checked) (r : Refusal) (else : Posted) → c ≡ C.Refused r → answerBy c else ≡ Refused r
 answer-refused c r else e = rw e
@@ -104,11 +108,10 @@ answer-refused c r else e = rw e
 pub answer-fine : (c : Checked) (else : Posted) → c ≡ C.Fine → answerBy c else ≡ else
 answer-fine c else e = rw e
 
--- the records and loss bytes that are left are those of the text
-pub ends-listed : {t : List Cell} {m k j b : ℕ} {wanted l : Posted} {out plain records words : List ℕ} (original rs ws : List ℕ) (x : List Cell) (losses size : ℕ)
-    → Listed original x rs ws losses size → Ends t (take (5 * losses) rs) (take size ws) m k j b wanted l out plain records words
-    → Ends t (lossRecords original x) (lossBytes x) m k j b wanted l out plain records words
-ends-listed original rs ws x losses size w p = rw (w .records-there, w .words-there) at p
+-- the loss bytes that are left are those of the text
+pub ends-spelled : {t : List Cell} {m k b : ℕ} {wanted l : Posted} {out plain words : List ℕ} (ws : List ℕ) (x : List Cell) (losses size : ℕ)
+    → Spelled x ws losses size → Ends t (take size ws) m k b wanted l out plain words → Ends t (lossBytes x) m k b wanted l out plain words
+ends-spelled ws x losses size w p = rw (w .words-there) at p
 
 -- ---- marks
 
@@ -130,14 +133,28 @@ module _ (post os gs : List ℕ) (m n j b : ℕ) (h : Holds (cells os gs) n (mar
   unfolding converted
   converted-done near = rw (le-ltb m (length (marksText post)) (fits near))
 
+  -- a marks text is no longer than its post
+  pub marks-few : n ≤ m → n ≤ length post
+  unfolding marksText
+  marks-few near =
+      let l = size in
+      let k = fits near in
+      let e = h .end (omega arith) in
+      omega (arith, e, marks-short (cellsOf post), length-cellsOf post)
+
   pub marks-front : n ≤ m → take n (cells os gs) ≡ marksText post
   marks-front near = h .text (let l = size in let k = fits near in omega arith)
 
-pub ends-finished : {m k j b : ℕ} {wanted l : Posted} {out plain records words : List ℕ} (post : List ℕ) (x : List Cell) → x ≡ marksText post
-    → Ends (lists (Quotes.quotes caption x)) (lossRecords post x) (lossBytes x) m k j b wanted l out plain records words
-    → Ends (finished post) (lossRecords post (marksText post)) (lossBytes (marksText post)) m k j b wanted l out plain records words
+pub ends-finished : {m k j b : ℕ} {wanted l : Posted} {out plain numbers words : List ℕ} (post : List ℕ) (x : List Cell) → x ≡ marksText post
+    → Ends (lists (Quotes.quotes caption x)) (lossBytes x) m k b wanted l out plain words × Noted (lossRecords post x) j l numbers
+    → Ends (finished post) (lossBytes (marksText post)) m k b wanted l out plain words × Noted (lossRecords post (marksText post)) j l numbers
 unfolding finished quotedText
 ends-finished post x e p = rw e at p
+
+-- the answer's own equation
+pub ends-done : {t : List Cell} {ws rs : List ℕ} {m k j b : ℕ} {wanted else l : Posted} {out plain numbers words : List ℕ} → Ends t ws m k b else l out plain words × Noted rs j l numbers → wanted ≡ else
+    → Ends t ws m k b wanted l out plain words × Noted rs j l numbers
+ends-done p e = (ends-as (p .0) e, p .1)
 
 -- ---- the length that is answered
 
@@ -170,7 +187,7 @@ by-size C.Fine else n a w k f e = f e
 
 marked-size : (x : List Cell) (m j b n a w : ℕ) → marked x m j b ≡ Done n a w → n ≡ length (lists (Quotes.quotes caption x))
 unfolding marked
-marked-size x m j b n a w = by-size (limited (Quotes.tooDeep x) (ltb (j / 5) (length (quoteLosses x))) (ltb b (length (lossBytes x)))) (quoting x m (length (quoteLosses x)) (length (lossBytes x))) n a w (length (lists (Quotes.quotes caption x))) (quoting-size x m (length (quoteLosses x)) (length (lossBytes x)) n a w)
+marked-size x m j b n a w = by-size (limited (Quotes.tooDeep x) (ltb j (length (quoteLosses x))) (ltb b (length (lossBytes x)))) (quoting x m (length (quoteLosses x)) (length (lossBytes x))) n a w (length (lists (Quotes.quotes caption x))) (quoting-size x m (length (quoteLosses x)) (length (lossBytes x)) n a w)
 
 converted-size : (post : List ℕ) (m j b n a w : ℕ) → converted post m j b ≡ Done n a w → n ≡ length (finished post)
 unfolding converted finished quotedText
@@ -184,16 +201,58 @@ answered-size : (post : List ℕ) (lent : Lent) (j b n a w : ℕ) → answered p
 unfolding answered
 answered-size post lent j b n a w = by-size (checked post lent) (converted post (lent .out) j b) n a w (length (finished post)) (converted-size post (lent .out) j b n a w)
 
+-- ---- the losses of an answer
+
+pub refused-noted : (rs : List ℕ) (j : ℕ) (l : Posted) (r : Refusal) (numbers : List ℕ) → l ≡ Refused r → Noted rs j l numbers
+refused-noted rs j l r numbers e = rw e (record { room = omega arith; few = omega arith; there = refl })
+
+done-losses : {n a w n' a' w' : ℕ} → _≡_ {A = Posted} (Done n a w) (Done n' a' w') → a' ≡ a
+done-losses e = cc
+
+quoting-losses : (x : List Cell) (m a w n a' w' : ℕ) → quoting x m a w ≡ Done n a' w' → a' ≡ a
+unfolding quoting listing
+quoting-losses x m a w n a' w' = by (ltb m (Quotes.quotesNeed caption x)) (ListTags.tooDeep (Quotes.quotes caption x)) (ltb m (listsNeed (Quotes.quotes caption x)))
+  where
+    by : (s t u : Bool) → cond s (Refused NoSpace) (cond t (Refused TooDeep) (cond u (Refused NoSpace) (Done (length (lists (Quotes.quotes caption x))) a w))) ≡ Done n a' w' → a' ≡ a
+    by true t u e = refused-done e
+    by false true u e = refused-done e
+    by false false true e = refused-done e
+    by false false false e = done-losses e
+
+-- behind the first `base` numbers others were written
+module _ (rs : List ℕ) (j losses base : ℕ) (ns rest : List ℕ) (few : losses ≤ j) (there : take (5 * losses) (take base ns) ≡ rs) (room : 5 * losses ≤ base) (in-numbers : base ≤ length ns) where
+  pub quoting-noted : (x : List Cell) (m w : ℕ) (l : Posted) → l ≡ quoting x m losses w → Noted rs j l (take base ns ++ rest)
+  quoting-noted x m w (Refused r) e = refused-noted rs j (Refused r) r (take base ns ++ rest) refl
+  quoting-noted x m w (Done n a w') e =
+      let f = quoting-losses x m losses w n a w' (sym e) in
+      let l : length (take base ns) ≡ base = length-take-le base ns in-numbers in
+      let z = length-append (take base ns) rest in
+      record {
+        room = omega (arith, f, l, z);
+        few = omega (arith, f);
+        there = ap (λ (i : ℕ). take (5 * i) (take base ns ++ rest)) f ∙ take-append-le (5 * losses) (take base ns) rest (omega (arith, l)) ∙ there;
+      }
+
+pub noted-longer : (rs : List ℕ) (j : ℕ) (l : Posted) (ns rest : List ℕ) → Noted rs j l ns → Noted rs j l (ns ++ rest)
+noted-longer rs j l ns rest p =
+    let z = length-append ns rest in
+    record { room = omega (arith, z, p .room); few = p .few; there = take-append-le (5 * lossesBy l) ns rest (p .room) ∙ p .there }
+
+-- the records are filled from the numbers
+pub called : (post : List ℕ) (m k j b w n : ℕ) (r : Posted) (out plain numbers words : List ℕ) (records : List Loss) → Numbered post m k j b w n r out plain numbers words
+    → records ≡ recordsLent j (take (5 * lossesBy r) numbers) → Called post m k j b w n r out plain records words
+called post m k j b w n r out plain numbers words records c e = record { answer = c .0 .answer; filled = c .0 .filled; listed = e ∙ ap (recordsLent j) (c .1 .there) }
+
 -- ---- demand 3
 
 front : (m : ℕ) (xs : List ℕ) → take (length xs) (padded m xs) ≡ xs
 unfolding padded
 front m xs = take-at xs (replicate (m - length xs) 0) (length xs) refl
 
-pub copied : (post : List ℕ) (lent : Lent) (k j b : ℕ) (r : Posted) {rs ws out plain records words : List ℕ}
-    → Ends (finished post) rs ws (lent .out) k j b (answered post lent j b) r out plain records words → Copied post r out plain
+pub copied : (post : List ℕ) (lent : Lent) (k j b : ℕ) (r : Posted) {ws out plain words : List ℕ}
+    → Ends (finished post) ws (lent .out) k b (answered post lent j b) r out plain words → Copied post r out plain
 copied post lent k j b (Refused r) p = tt
-copied post lent k j b (Done n a w) {rs} {ws} {out} {plain} p =
+copied post lent k j b (Done n a w) {ws} {out} {plain} p =
     let e : n ≡ length (finished post) = answered-size post lent j b n a w (sym (p .answer)) in
     let o : take n out ≡ bytes (finished post) =
     ap (take n) (p .filled .laid .text) ∙ ap (λ (i : ℕ). take i (padded (lent .out) (bytes (finished post)))) (e ∙ sym (length-map (finished post) (λ (c : Cell). c .byte))) ∙ front (lent .out) (bytes (finished post)) in

@@ -1,4 +1,4 @@
--- A whole call of `bbcode_to_carve`, which is lent m output bytes, k origins, j record numbers (five a record) and b loss bytes. Document 01,
+-- A whole call of `bbcode_to_carve`, which is lent m output bytes, k origins, j records and b loss bytes. Document 01,
 -- "Whole post": 1 to 4 once, then marks 6, quotes 5, 7, 8, 6, lists 5, 6.
 --   listing x m a w          the answer for what quotes hands on, with a losses and w loss bytes: lists 5, 6
 --   quoting x m a w          the answer for a marks text within quotes' limits: quotes 6, then these
@@ -8,12 +8,16 @@
 --   numberOfAnswer r         document 01's number of an answer: 0 where the post is converted
 --   countsOfAnswer r         its values: the text's length, the losses and the loss bytes; 0 each on a refusal
 --   ifDone r l               l, or nothing on a refusal
---   Ends ..                  what comes back, and what the four lent slices then hold
---   Called ..                this of a whole call
+--   Called ..                what comes back from the call, and what the lent slices then hold
 --   Copied ..                demand 3 of the bytes and origins that a call leaves
+-- In code, where the losses are listed as plain numbers:
+--   lossesBy r               how many there are: none on a refusal
+--   Noted ..                 the numbers then begin with theirs, five each
+--   Ends ..                  what comes back, and what output, origins and loss bytes then hold
+--   Numbered ..              this of a call, with the losses noted
 -- Assumes nothing.
 use mathlib.Core.Path.{_≡_}
-use Prim.Native.Nat.{ℕ, _/_}
+use Prim.Native.Nat.{ℕ, _*_, _≤_}
 use mathlib.Core.Bool.{Bool, cond}
 use mathlib.Core.List.{List, [], _∷_}
 use lib.ListN.{length, take}
@@ -26,6 +30,8 @@ use Rattle.text.specs.declared.lent.Spans.the-variants.{Without}
 use Rattle.text.specs.declared.lent.Lent.{Lent}
 use Rattle.text.specs.declared.lent.Checked.{Checked}
 use Rattle.text.specs.declared.lent.Checked.the-variants as C
+use Rattle.losses.specs.declared.Loss.{Loss}
+use Rattle.losses.specs.Records.{recordsLent}
 use Rattle.attribution_parts.specs.Attribution.{caption}
 use Rattle.quote_blocks.specs.Quotes as Quotes
 use Rattle.quotes.specs.Losses.{quoteLosses, lossBytes, lossRecords}
@@ -47,10 +53,9 @@ abbrev pub answerBy : Checked → Posted → Posted
 answerBy (C.Refused r) else = Refused r
 answerBy C.Fine else = else
 
--- a record takes five numbers
 unfoldable pub marked : (x : List Cell) → (m j b : ℕ) → Posted
 marked x m j b =
-    answerBy (limited (Quotes.tooDeep x) (ltb (j / 5) (length (quoteLosses x))) (ltb b (length (lossBytes x)))) (quoting x m (length (quoteLosses x)) (length (lossBytes x)))
+    answerBy (limited (Quotes.tooDeep x) (ltb j (length (quoteLosses x))) (ltb b (length (lossBytes x)))) (quoting x m (length (quoteLosses x)) (length (lossBytes x)))
 
 unfoldable pub converted : (post : List ℕ) → (m j b : ℕ) → Posted
 converted post m j b = cond (ltb m (length (marksText post))) (Refused NoSpace) (marked (marksText post) m j b)
@@ -70,21 +75,38 @@ abbrev pub ifDone : {A : Type 0} → Posted → List A → List A
 ifDone (Done size losses words) l = l
 ifDone (Refused r) l = []
 
--- what comes back is r: what it has to be is `wanted`; where it is done, the text t, the records rs and the loss bytes ws are left
-pub record Ends (t : List Cell) (rs ws : List ℕ) (m k j b : ℕ) (wanted r : Posted) (out plain records words : List ℕ) : Type 0 where
-  pub answer : r ≡ wanted
-  pub filled : Filled (ifDone r t) (ifDone r rs) (ifDone r ws) m k j b out plain records words
-
 -- w work bytes and n work numbers are lent
-abbrev pub Called : (post : List ℕ) (m k j b w n : ℕ) (r : Posted) (out plain records words : List ℕ) → Type 0
-Called post m k j b w n r out plain records words =
-    Ends (finished post) (lossRecords post (marksText post)) (lossBytes (marksText post)) m k j b
-    (answered post (record { out = m; origins = k; work = w; numbers = n; spans = Without }) j b) r out plain records words
+pub record Called (post : List ℕ) (m k j b w n : ℕ) (r : Posted) (out plain : List ℕ) (records : List Loss) (words : List ℕ) : Type 0 where
+  pub answer : r ≡ answered post (record { out = m; origins = k; work = w; numbers = n; spans = Without }) j b
+  pub filled : Filled (ifDone r (finished post)) (ifDone r (lossBytes (marksText post))) m k b out plain words
+  pub listed : records ≡ recordsLent j (ifDone r (lossRecords post (marksText post)))
 
 -- of every converted post: the bytes and origins that are left are copied by origin
 abbrev pub Copied : (post : List ℕ) → Posted → (out plain : List ℕ) → Type 0
 Copied post (Done size losses words) out plain = CopiedByOrigin post (Consumed post) (take size out) (take size plain)
 Copied post (Refused r) out plain = Unit
+
+-- ---- in code
+
+abbrev pub lossesBy : Posted → ℕ
+lossesBy (Done size losses words) = losses
+lossesBy (Refused r) = 0
+
+-- the losses of an answer, of which the records have the numbers rs, are no more than j
+pub record Noted (rs : List ℕ) (j : ℕ) (r : Posted) (numbers : List ℕ) : Type 0 where
+  pub room : 5 * lossesBy r ≤ length numbers
+  pub few : lossesBy r ≤ j
+  pub there : take (5 * lossesBy r) numbers ≡ ifDone r rs
+
+-- what comes back is r: what it has to be is `wanted`; where it is done, the text t and the loss bytes ws are left
+pub record Ends (t : List Cell) (ws : List ℕ) (m k b : ℕ) (wanted r : Posted) (out plain words : List ℕ) : Type 0 where
+  pub answer : r ≡ wanted
+  pub filled : Filled (ifDone r t) (ifDone r ws) m k b out plain words
+
+abbrev pub Numbered : (post : List ℕ) (m k j b w n : ℕ) (r : Posted) (out plain numbers words : List ℕ) → Type 0
+Numbered post m k j b w n r out plain numbers words =
+    Ends (finished post) (lossBytes (marksText post)) m k b (answered post (record { out = m; origins = k; work = w; numbers = n; spans = Without }) j b) r out plain words
+    × Noted (lossRecords post (marksText post)) j r numbers
 
 -- all of this module, for `unfolding` where a closed call is to be computed
 unfoldable pub computes : Unit {0}

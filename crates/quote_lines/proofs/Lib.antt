@@ -1,5 +1,7 @@
 pub mod Tagging
+pub mod Plain
 pub mod Masking
+pub mod Unmasking
 pub mod Bared
 pub mod Tabling
 pub mod Finding

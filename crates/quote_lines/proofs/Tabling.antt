@@ -1,7 +1,7 @@
 -- Laws of the table of quote tags: s is the text, ns the numbers. Assumes nothing.
 use mathlib.Core.Path.{_≡_, refl, sym, ap, subst, _∙_}
 use Prim.Native.Nat.{ℕ, zero, suc, _+_, _-_, _*_, _≤_, _<_}
-use native.Mathlib.Nat.{add-zero}
+use native.Mathlib.Nat.{add-zero, zero-add, suc-add}
 use native.Mathlib.Omega.{arith}
 use native.Mathlib.Decide.{decLe}
 use native.Mathlib.Numerals.{add-one}
@@ -12,9 +12,11 @@ use lib.Seq.{drop-cons, drop-drop, getD-drop, getD-take, getD-set-same, getD-set
 use lib.Dec.{eqb, ltb}
 use borrow.Author.Tests.{eqb-true, eq-eqb}
 use Rattle.text.specs.Ascii.{is, begins, small, inside, toFirst, toBracket}
-use Rattle.quote_lines.specs.Tags.{beginsAny, tagSize, upToBracket, openers, openerSize, attributionOf}
+use Rattle.text.proofs.Bytes.{first-within}
+use Rattle.quote_lines.proofs.Plain.{run-first, opener-plain}
+use Rattle.quote_lines.specs.Tags.{NextBracket, beginsAny, tagSize, upToBracket, openers, openerSize, attributionOf}
 use Rattle.quote_lines.specs.Lines.{Tag, bare, lineAfter, tags}
-use Rattle.quote_lines.specs.Tables.{wordsAt, TagAt, noTag, Table, Tabled, linesBehind}
+use Rattle.quote_lines.specs.Tables.{wordsAt, TagAt, noTag, Table, Tabled, Untagged, NextOpener, linesBehind}
 
 -- ---- lines
 
@@ -70,12 +72,6 @@ unfolding tags linesBehind
 first-byte line b x e = rw e
 
 module _ (s : List ℕ) (i line k : ℕ) (e : k ≡ openerSize (drop i s)) where
-  tags-byte : i < length s → k ≡ 0 → tags line 0 (drop i s) ≡ tags (linesBehind line (take (i + 1 - i) (drop i s))) 0 (drop (i + 1) s)
-  tags-byte lt z =
-      let q : i + 1 - i ≡ 1 = omega arith in
-      let d : drop i s ≡ getD s i 0 ∷ drop (i + 1) s = rw add-one (drop-cons s i 0 lt) in
-      rw (q, d) (first-byte line (getD s i 0) (drop (i + 1) s) (ap openerSize (sym d) ∙ sym e ∙ z))
-
   tags-opener : (k ≡ 0 → ⊥)
       → tags line 0 (drop i s) ≡ record { line = line; attribution = take (k - 8) (drop (i + 7) s) } ∷ tags (linesBehind line (take (i + k - i) (drop i s))) 0 (drop (i + k) s)
   unfolding attributionOf
@@ -84,6 +80,61 @@ module _ (s : List ℕ) (i line k : ℕ) (e : k ≡ openerSize (drop i s)) where
       let r : k ≡ suc (k - 1) = omega arith in
       let f = first-tag line (k - 1) (drop i s) (sym e ∙ r) in
       rw (q, ← drop-drop k i s, ← drop-drop 7 i s) (f ∙ rw (← e, ← r))
+
+-- ---- where no tag begins
+
+-- what stands there is skipped as the rest of a tag would be
+under : (k n : ℕ) (x : List ℕ) → ((line : ℕ) → tags line 0 (drop k x) ≡ tags line n (drop k x)) → (line : ℕ) → tags line k x ≡ tags line (k + n) x
+unfolding tags
+under zero n x f line = rw zero-add (f line)
+under (suc k) n [] f line = refl
+under (suc k) n (b ∷ x) f line = rw suc-add (under k n x f (lineAfter b line))
+
+run-skipped : (n line : ℕ) (x : List ℕ) → n ≤ toFirst (is "[") x → tags line 0 x ≡ tags line n x
+unfolding tags linesBehind
+run-skipped zero line x h = refl
+run-skipped (suc n) line [] h = refl
+run-skipped (suc n) line (b ∷ x) h =
+    let f = run-first n b x h in
+    first-byte line b x (opener-plain b x (f .0)) ∙ run-skipped n (lineAfter b line) x (f .1)
+
+byte-skipped : (line : ℕ) (x : List ℕ) → openerSize x ≡ 0 → tags line 0 x ≡ tags line 1 x
+unfolding tags linesBehind
+byte-skipped line [] e = refl
+byte-skipped line (b ∷ x) e = first-byte line b x e
+
+pub untagged : (s : List ℕ) (i : ℕ) → i ≤ length s → Untagged s i i
+untagged s i h = record { order = omega arith; inside = h; skip = λ line. (let z : i - i ≡ 0 = omega arith in rw z) }
+
+module _ {s : List ℕ} {a i : ℕ} (w : Untagged s a i) where
+  further : (n : ℕ) → i + n ≤ length s → ((line : ℕ) → tags line 0 (drop i s) ≡ tags line n (drop i s)) → Untagged s a (i + n)
+  further n le f =
+      let x : a + (i - a) ≡ i = omega (arith, w .order) in
+      let y : i - a + n ≡ i + n - a = omega (arith, w .order) in
+      let d : drop (i - a) (drop a s) ≡ drop i s = drop-drop (i - a) a s ∙ ap (λ (k : ℕ). drop k s) x in
+      record {
+        order = omega (arith, w .order);
+        inside = le;
+        skip = λ line. w .skip line ∙ under (i - a) n (drop a s) (λ l. rw d (f l)) line ∙ ap (λ (k : ℕ). tags line k (drop a s)) y;
+      }
+
+  pub untagged-run : {q : ℕ} → q ≡ i + toFirst (is "[") (drop i s) → Untagged s a q
+  untagged-run e =
+      let f = first-within (is "[") (drop i s) in
+      let l = length-drop i s in
+      rw e (further _ (omega (arith, f, l, w .inside)) (λ line. run-skipped _ line (drop i s) (omega arith)))
+
+  pub untagged-byte : i < length s → openerSize (drop i s) ≡ 0 → Untagged s a (i + 1)
+  untagged-byte lt e = further 1 (omega arith) (λ line. byte-skipped line (drop i s) e)
+
+pub opener-found : {s : List ℕ} {a q p b k : ℕ} → Untagged s a q → p ≡ q → k ≡ openerSize (drop q s) → NextBracket s q b → ((k ≡ 0 → ⊥) → b ≡ q + toBracket (drop q s)) → (k ≡ 0 → ⊥) → NextOpener s a p b k
+opener-found {s} {a} {q} {p} {b} {k} u e es nb cl n =
+    subst (λ (x : ℕ). NextOpener s a x b k) (sym e) (record { before = u; size = es; bracket = nb; closed = cl; none = λ z. absurd (n z) })
+
+pub opener-missing : {s : List ℕ} {a q b : ℕ} → Untagged s a q → NextBracket s q b → length s ≤ q → NextOpener s a q b 0
+opener-missing {s} {a} {q} u nb le =
+    let d : drop q s ≡ [] = drop-of-length-le s {i = q} le in
+    record { before = u; size = sym (ap openerSize d ∙ no-opener); bracket = nb; closed = λ n. absurd (n refl); none = λ z. omega (arith, u .inside, le) }
 
 -- ---- an opener has at least 7 bytes
 
@@ -198,15 +249,33 @@ pub tabled : (s ns : List ℕ) (t : ℕ) → Tabled s ns t 0 1 0
 tabled s ns t = record { rest = refl; some = omega arith; few = omega arith; line-most = omega arith; each = λ k lt. absurd (omega (arith, lt)) }
 
 module _ (s ns : List ℕ) (t i line count : ℕ) (w : Tabled s ns t i line count) where
-  pub tabled-byte : {k next : ℕ} → k ≡ openerSize (drop i s) → k ≡ 0 → i < length s
-      → (next ≡ linesBehind line (take (i + 1 - i) (drop i s))) × (next ≤ line + (i + 1 - i)) → Tabled s ns t (i + 1) next count
-  tabled-byte {k} {next} e z lt (q, m) = record {
-    rest = w .rest ∙ tags-byte s i line k e lt z ∙ ap (λ (l : ℕ). tags l 0 (drop (i + 1) s)) (sym q);
-    some = w .some;
-    few = omega (arith, w .few);
-    line-most = omega (arith, m, w .line-most);
-    each = w .each;
-  }
+  module _ {p : ℕ} (u : Untagged s i p) where
+    rest-at : drop count (tags 1 0 s) ≡ tags (linesBehind line (take (p - i) (drop i s))) 0 (drop p s)
+    rest-at =
+        let x : i + (p - i) ≡ p = omega (arith, u .order) in
+        let d : drop (p - i) (drop i s) ≡ drop p s = drop-drop (p - i) i s ∙ ap (λ (k : ℕ). drop k s) x in
+        w .rest ∙ u .skip line ∙ tags-skip (p - i) line (drop i s) ∙ rw d
+
+    pub tabled-on : {here : ℕ} → (here ≡ linesBehind line (take (p - i) (drop i s))) × (here ≤ line + (p - i)) → Tabled s ns t p here count
+    tabled-on (q, m) = record {
+      rest = rest-at ∙ ap (λ (l : ℕ). tags l 0 (drop p s)) (sym q);
+      some = w .some;
+      few = omega (arith, w .few, u .order);
+      line-most = omega (arith, m, w .line-most, u .order);
+      each = w .each;
+    }
+
+    pub tabled-last : p ≡ length s → Tabled s ns t p line count
+    unfolding tags
+    tabled-last e =
+        let d : drop p s ≡ [] = drop-of-length-le s {i = p} (omega arith) in
+        record {
+          rest = rest-at ∙ rw d;
+          some = w .some;
+          few = omega (arith, w .few, u .order);
+          line-most = omega (arith, w .line-most, u .order);
+          each = w .each;
+        }
 
   module _ (k : ℕ) (e : k ≡ openerSize (drop i s)) (n : k ≡ 0 → ⊥) where
     comes : Tag

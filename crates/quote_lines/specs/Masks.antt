@@ -5,6 +5,7 @@
 --   toCloser ws s       how many bytes of s stand before the first of the closers ws; all where there is none
 --   region m s          how many bytes the masked region has that s begins with; 0 for none
 --   blanked b           a byte of a region: a line feed stays, a character's first byte becomes a space, its others go
+--   NoMask s            s begins with no masked region
 --   masked m left s     s masked by m, where the first `left` bytes are the rest of a region
 --   visible s           s masked by code, then by c and icode, then by noparse
 -- Assumes nothing.
@@ -42,6 +43,9 @@ unfoldable pub region : Mask → List ℕ → ℕ
 region m s =
     regionOf (tagSize (m .opens) s) (toCloser (m .closes) (drop (tagSize (m .opens) s) s))
     (tagSize (m .closes) (drop (tagSize (m .opens) s + toCloser (m .closes) (drop (tagSize (m .opens) s) s)) s))
+
+abbrev pub NoMask : List ℕ → Type 0
+NoMask s = (region code s ≡ 0) × (region icode s ≡ 0) × (region noparse s ≡ 0)
 
 abbrev pub blanked : ℕ → List ℕ
 blanked b = cond (is "\n" b) (b ∷ []) (cond (inside 0x80 0xBF b) [] (32 ∷ []))

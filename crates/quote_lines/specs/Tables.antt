@@ -6,6 +6,8 @@
 --   LinesRead text bs ns size count  bs begins with the masked text, so many bytes, and ns with its table
 --   lineIn ns t count next  the line of tag `next`, at most the last; 1 if there are none
 --   Tabled s ns t i line count  it holds those that begin before place i, where this line is
+--   Untagged s i p        no tag begins from place i up to p
+--   NextOpener s i p b k  the first tag from place i on: at p, k bytes, its `]` at b; k is 0 and p the end where there is none
 --   linesBehind line s    the line behind s, where it begins in this line
 --   PastBackslashes s i r   r is the first place from i on with another byte than a backslash, or the end
 -- Assumes nothing.
@@ -15,7 +17,8 @@ use mathlib.Core.Bool.{false, cond}
 use mathlib.Core.List.{List, [], _∷_}
 use lib.ListN.{length, take, drop, getD}
 use lib.Dec.{eqb}
-use Rattle.text.specs.Ascii.{is}
+use Rattle.text.specs.Ascii.{is, toBracket}
+use Rattle.quote_lines.specs.Tags.{NextBracket, openerSize}
 use Rattle.quote_lines.specs.Masks.{visible}
 use Rattle.quote_lines.specs.Lines.{Tag, bare, lineAfter, tags}
 
@@ -56,6 +59,18 @@ pub record Tabled (s ns : List ℕ) (t i line count : ℕ) : Type 0 where
   pub few : 7 * count ≤ i
   pub line-most : line ≤ i + 1
   pub each : TagsAt s ns t count
+
+pub record Untagged (s : List ℕ) (i p : ℕ) : Type 0 where
+  pub order : i ≤ p
+  pub inside : p ≤ length s
+  pub skip : (line : ℕ) → tags line 0 (drop i s) ≡ tags line (p - i) (drop i s)
+
+pub record NextOpener (s : List ℕ) (i p b k : ℕ) : Type 0 where
+  pub before : Untagged s i p
+  pub size : k ≡ openerSize (drop p s)
+  pub bracket : NextBracket s p b
+  pub closed : (k ≡ 0 → ⊥) → b ≡ p + toBracket (drop p s)
+  pub none : k ≡ 0 → p ≡ length s
 
 unfoldable pub linesBehind : (line : ℕ) → List ℕ → ℕ
 linesBehind line [] = line

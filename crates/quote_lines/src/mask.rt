@@ -4,17 +4,20 @@ use crate::tag::bracket_from;
 use crate::tag::up_to_bracket;
 use text::PostAt;
 use text::scan::begins_at;
+use text::scan::byte_at;
 use text::scan::is_inside;
 use text::scan::next_bracket;
+use text::scan::next_byte;
+use text::scan::small_of;
 ghost use mathlib.Core.Path.{_≡_};
-ghost use mathlib.Core.Bool.{cond};
+ghost use mathlib.Core.Bool.{cond, false};
 ghost use mathlib.Core.List.{[], _∷_};
 ghost use Prim.Native.Nat.{_+_, _-_, _≤_, _<_};
 ghost use lib.ListN.{length, take, drop};
 ghost use lib.Dec.{ltb};
 ghost use Rattle.text.specs.Ascii.{toBracket};
 ghost use Rattle.quote_lines.specs.Tags.{NextBracket, beginsAny, tagSize};
-ghost use Rattle.quote_lines.specs.Masks.{toCloser, region, shown, Masked, KnownCloser, visible};
+ghost use Rattle.quote_lines.specs.Masks.{toCloser, region, shown, Masked, KnownCloser, visible, NoMask};
 
 // Whether the text from a place on begins with one of two words.
 fn begins_either(s: &[u8], at: PostAt, first: &[u8], second: &[u8]) -> bool
@@ -232,7 +235,7 @@ fn mask(
 }
 
 // Masks the first n bytes by code, then by c and icode, then by noparse. Returns how many bytes are left.
-pub fn mask_all(buf: &mut [u8], n: usize) -> usize
+fn mask_each(buf: &mut [u8], n: usize) -> usize
     requires { ⌜ n ≤ length (now buf) ⌝ }
     ensures { λ r. ⌜ (r ≤ n) × (take r (now (buf .exit)) ≡ visible (take n (now (buf .entry)))) ⌝ }
 {
@@ -246,4 +249,56 @@ pub fn mask_all(buf: &mut [u8], n: usize) -> usize
         b"[/noparse]",
         b"[/noparse]",
     )
+}
+
+// Whether a word that opens a mask stands at a place.
+fn opens_mask(s: &[u8], at: PostAt) -> bool
+    requires { ⌜ at .0 < length (now s) ⌝ }
+    ensures { λ r. ⌜ (r ≡ false → NoMask (drop (at .0) (now (s .entry)))) ⌝ }
+{
+    let i = at.0;
+    let second = small_of(byte_at(s, i + 1));
+    if second == b'c' {
+        if begins_at(s, at, b"[code") {
+            return true;
+        }
+        return begins_at(s, at, b"[c]");
+    }
+    if second == b'i' {
+        return begins_at(s, at, b"[icode]");
+    }
+    if second == b'n' {
+        return begins_at(s, at, b"[noparse]");
+    }
+    false
+}
+
+// Whether a word that opens a mask stands anywhere.
+fn has_mask(s: &[u8]) -> bool
+    ensures { λ r. ⌜ (r ≡ false → visible (now (s .entry)) ≡ now (s .entry)) ⌝ }
+{
+    let mut i: usize = 0;
+    while i < s.len() {
+        let next = next_byte(s, PostAt(i), b'[');
+        i = next.0;
+        if s.len() <= i {
+            return false;
+        }
+        if opens_mask(s, next) {
+            return true;
+        }
+        i += 1;
+    }
+    false
+}
+
+// The same, and most texts have no mask.
+pub fn mask_all(buf: &mut [u8], n: usize) -> usize
+    requires { ⌜ n ≤ length (now buf) ⌝ }
+    ensures { λ r. ⌜ (r ≤ n) × (take r (now (buf .exit)) ≡ visible (take n (now (buf .entry)))) ⌝ }
+{
+    if has_mask(&buf[..n]) {
+        return mask_each(buf, n);
+    }
+    n
 }

@@ -1,16 +1,19 @@
 // The quote tags of the original text, and the line of a converted quote.
 use crate::mask::mask_all;
 use crate::tag::bracket_from;
-use crate::tag::opener_size;
+use crate::tag::opens_quote;
+use crate::tag::up_to_bracket;
 use text::PostAt;
 use text::scan::next_bracket;
+use text::scan::next_byte;
 use text::source::set_source;
 ghost use mathlib.Core.Path.{_≡_};
 ghost use Prim.Native.Nat.{_+_, _-_, _*_, _≤_, _<_};
 ghost use lib.ListN.{length, take, drop};
-ghost use Rattle.quote_lines.specs.Tags.{NextBracket};
+ghost use Rattle.text.specs.Ascii.{toBracket};
+ghost use Rattle.quote_lines.specs.Tags.{NextBracket, openerSize};
 ghost use Rattle.quote_lines.specs.Lines.{bare, lineAfter, tags, same, place, nextAfter, lineAt};
-ghost use Rattle.quote_lines.specs.Tables.{wordsAt, WordsAt, TagAt, Table, LinesRead, lineIn, Tabled, linesBehind, PastBackslashes};
+ghost use Rattle.quote_lines.specs.Tables.{wordsAt, WordsAt, TagAt, Table, LinesRead, lineIn, Tabled, NextOpener, linesBehind, PastBackslashes};
 
 // A place in the text, the place of the next `]`, the line there, and how many tags stand in the table.
 pub struct Reading {
@@ -124,32 +127,88 @@ fn put_tag(s: &[u8], numbers: &mut [u32], p: usize, line: usize, a: usize, size:
     numbers[p + 3] = bare as u32;
 }
 
-// Reads the tag or the byte at a place.
+// A quote opener, its size and the place of the next `]`.
+pub struct Opener {
+    pub at: PostAt,
+    pub bracket: PostAt,
+    pub size: usize,
+}
+
+// The opener at a place; its size is 0 where none is there.
+fn opener_at(s: &[u8], at: PostAt, known: PostAt) -> Opener
+    requires { ⌜ (at .0 ≤ length (now s)) × NextBracket (now s) (at .0) (known .0) ⌝ }
+    ensures { λ r. ⌜ ((r .at .0 ≡ at .0) × (r .size ≡ openerSize (drop (at .0) (now (s .entry))))) × (NextBracket (now (s .entry)) (at .0) (r .bracket .0) × ((r .size ≡ 0 → ⊥) → r .bracket .0 ≡ at .0 + toBracket (drop (at .0) (now (s .entry))))) ⌝ }
+{
+    if opens_quote(s, at) {
+        let bracket = bracket_from(s, at, known);
+        let size = up_to_bracket(s, at, bracket);
+        return Opener { at, bracket, size };
+    }
+    Opener {
+        at,
+        bracket: known,
+        size: 0,
+    }
+}
+
+// The first opener from a place on; its size is 0 and its place the end where there is none.
+fn next_opener(s: &[u8], at: PostAt, known: PostAt) -> Opener
+    requires { ⌜ (at .0 ≤ length (now s)) × NextBracket (now s) (at .0) (known .0) ⌝ }
+    ensures { λ r. ⌜ NextOpener (now (s .entry)) (at .0) (r .at .0) (r .bracket .0) (r .size) ⌝ }
+{
+    let mut i = at.0;
+    let mut bracket = known;
+    while i < s.len() {
+        let next = next_byte(s, PostAt(i), b'[');
+        let here = opener_at(s, next, bracket);
+        let size = here.size;
+        if size != 0 {
+            return here;
+        }
+        bracket = here.bracket;
+        i = next.0;
+        if s.len() <= i {
+            return Opener {
+                at: next,
+                bracket,
+                size: 0,
+            };
+        }
+        i += 1;
+    }
+    Opener {
+        at: PostAt(i),
+        bracket,
+        size: 0,
+    }
+}
+
+// Reads the next tag from a place on.
 fn read_tag(s: &[u8], numbers: &mut [u32], t: usize, from: Reading) -> Reading
     requires { ⌜ ((from .at .0 < length (now s)) × (length (now s) ≤ 262144)) × ((t + length (now s) ≤ length (now numbers)) × (NextBracket (now s) (from .at .0) (from .bracket .0) × Tabled (now s) (now numbers) t (from .at .0) (from .line) (from .count))) ⌝ }
     ensures { λ r. ⌜ ((from .at .0 < r .at .0) × (r .at .0 ≤ length (now (s .entry)))) × ((take t (now (numbers .exit)) ≡ take t (now (numbers .entry))) × (NextBracket (now (s .entry)) (r .at .0) (r .bracket .0) × Tabled (now (s .entry)) (now (numbers .exit)) t (r .at .0) (r .line) (r .count))) ⌝ }
 {
     let at = from.at;
-    let known = from.bracket;
     let line = from.line;
     let count = from.count;
-    let i = at.0;
-    let bracket = bracket_from(s, at, known);
-    let k = opener_size(s, at, bracket);
+    let opener = next_opener(s, at, from.bracket);
+    let place = opener.at;
+    let bracket = opener.bracket;
+    let k = opener.size;
     if k == 0 {
-        let next = i + 1;
-        let line_next = line_behind(s, i, next, line);
         return Reading {
-            at: PostAt(next),
+            at: place,
             bracket,
-            line: line_next,
+            line,
             count,
         };
     }
+    let i = place.0;
+    let line_here = line_behind(s, at.0, i, line);
     let size = attribution_size(k);
-    put_tag(s, numbers, t + 4 * count, line, i + 7, size);
+    put_tag(s, numbers, t + 4 * count, line_here, i + 7, size);
     let next = i + k;
-    let line_next = line_behind(s, i, next, line);
+    let line_next = line_behind(s, i, next, line_here);
     Reading {
         at: PostAt(next),
         bracket,

@@ -1,12 +1,14 @@
 // Reading tags. Every `]` is looked for once: the place of the next one is kept.
 use text::PostAt;
 use text::scan::begins_at;
+use text::scan::byte_at;
 use text::scan::next_bracket;
+use text::scan::small_of;
 ghost use mathlib.Core.Path.{_≡_};
 ghost use Prim.Native.Nat.{_+_, _≤_, _<_};
 ghost use lib.ListN.{length, drop};
 ghost use Rattle.text.specs.Ascii.{toBracket};
-ghost use Rattle.quote_lines.specs.Tags.{NextBracket, upToBracket, openerSize, closerSize};
+ghost use Rattle.quote_lines.specs.Tags.{NextBracket, upToBracket, beginsAny, openers, openerSize, closerSize};
 
 // The place of the first `]` from a place on, or the end, where `known` is that place or lies before.
 pub fn bracket_from(s: &[u8], at: PostAt, known: PostAt) -> PostAt
@@ -34,18 +36,31 @@ pub fn up_to_bracket(s: &[u8], at: PostAt, bracket: PostAt) -> usize
     0
 }
 
+// Whether the word of a quote opener stands at a place.
+pub fn opens_quote(s: &[u8], at: PostAt) -> bool
+    requires { ⌜ at .0 ≤ length (now s) ⌝ }
+    ensures { λ r. ⌜ r ≡ beginsAny openers (drop (at .0) (now (s .entry))) ⌝ }
+{
+    let i = at.0;
+    let second = small_of(byte_at(s, i + 1));
+    if second != b'q' {
+        return false;
+    }
+    if begins_at(s, at, b"[quote]") {
+        return true;
+    }
+    if begins_at(s, at, b"[quote=") {
+        return true;
+    }
+    begins_at(s, at, b"[quote ")
+}
+
 // How many bytes the quote opener at a place has, 0 where none is there.
 pub fn opener_size(s: &[u8], at: PostAt, bracket: PostAt) -> usize
     requires { ⌜ (at .0 ≤ length (now s)) × (bracket .0 ≡ at .0 + toBracket (drop (at .0) (now s))) ⌝ }
     ensures { λ r. ⌜ r ≡ openerSize (drop (at .0) (now (s .entry))) ⌝ }
 {
-    if begins_at(s, at, b"[quote]") {
-        return up_to_bracket(s, at, bracket);
-    }
-    if begins_at(s, at, b"[quote=") {
-        return up_to_bracket(s, at, bracket);
-    }
-    if begins_at(s, at, b"[quote ") {
+    if opens_quote(s, at) {
         return up_to_bracket(s, at, bracket);
     }
     0

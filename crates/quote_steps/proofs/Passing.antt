@@ -10,6 +10,7 @@ use lib.Dec.{leb}
 use borrow.Author.Tests.{leb-false}
 use lib.ListN.{length, take, drop, getD, set, length-append, length-map}
 use lib.Seq.{length-take-le, getD-take, take-take, take-at, drop-at, getD-set-same, getD-set-other}
+use Rattle.text.specs.Ascii.{is, toFirst}
 use Rattle.text.specs.Cells.{Cell, cells, bytes, part, feed}
 use Rattle.text.specs.Writes.{Holds, Appends, AppendsIn}
 use Rattle.text.proofs.Writing.{holds-fits, cells-le, cells-short, cells-at, part-cons, part-end}
@@ -19,7 +20,8 @@ use Rattle.text.proofs.Sources.{cells-taken}
 use Rattle.quote_blocks.proofs.Reading.{read-opener, read-closer, read-text, read-end}
 use Rattle.quote_lines.specs.Tags.{attributionOf, openerSize, closerSize}
 use Rattle.quote_blocks.specs.Quotes.{Token, text, opens, closes, tokens, Quote, State, start, opening, held, total, close, closed, step, finish, run, quotes, finishNeed, runNeed, quotesNeed, quoteBlock, tooDeepFrom, tooDeep}
-use Rattle.quote_steps.specs.Passes.{Stood, Stands, Closes, ClosesIn, Takes, TakesOne, Leaves, ClosesLast, ClosesAll, Reached, Runs}
+use Rattle.quote_steps.proofs.Texts.{run-within, read-run, more-is, more-opened, run-texts, need-texts, texts-needed, deep-texts}
+use Rattle.quote_steps.specs.Passes.{texts, more, Stood, Stands, Closes, ClosesIn, Takes, TakesOne, Leaves, ClosesLast, ClosesAll, Reached, Runs}
 
 -- ---- an area
 
@@ -147,10 +149,24 @@ module _ (caption : List ℕ → List ℕ) (e end : ℕ) (P : List Cell) (bs ns 
   at-end : to ≡ length P + length (opening (s .opened) ++ s .now)
   at-end = w .text .end (holds-fits _ to _ (w .text) within) ∙ length-append P (opening (s .opened) ++ s .now)
 
+  -- the text up to the next `[`
+  reads-on : (i q : ℕ) → q ≡ i + 1 + toFirst (is "[") (drop (i + 1) (take e bs)) → q ≤ e → tokens 0 (drop (i + 1) (take e P)) ≡ texts (part (i + 1) q (cells bs ns)) (tokens 0 (drop q (take e P)))
+  unfolding part
+  reads-on i q eq le =
+      let h : toFirst (is "[") (drop (i + 1) (take e bs)) ≤ toFirst (is "[") (drop (i + 1) (bytes (take e P))) = rw text-bytes (omega arith) in
+      let x : take q (take e P) ≡ take q (cells bs ns) = ap (take q) text-cells ∙ take-take q e (cells bs ns) le in
+      read-run (i + 1) (toFirst (is "[") (drop (i + 1) (take e bs))) (take e P) h ∙ rw (← eq, x)
+
+  joined-on : (c : Cell) (rest all : List Cell) → all ≡ c ∷ rest → (P ++ (opening (s .opened) ++ s .now)) ++ all ≡ P ++ (opening (s .opened) ++ ((s .now ++ c ∷ []) ++ rest))
+  joined-on c rest all p =
+      append-assoc P (opening (s .opened) ++ s .now) all
+      ∙ ap (λ (l : List Cell). P ++ l) (append-assoc (opening (s .opened)) (s .now) all
+      ∙ ap (λ (l : List Cell). opening (s .opened) ++ l) (ap (λ (l : List Cell). s .now ++ l) p ∙ sym (append-assoc (s .now) (c ∷ []) rest)))
+
   module _ (i : ℕ) {k : ℕ} (ek : k ≡ openerSize (drop i (take e bs))) where
     pub takes-opener : (k ≡ 0 → ⊥) → i < e → d < length starts → d < length tags
         → Takes caption e P (take end (cells bs ns)) to starts tags d i (take end (cells bs ns)) to (set starts d to) (set tags d i) (d + 1) (i + k) s
-    unfolding step Stood opening
+    unfolding step Stood opening texts more
     takes-opener n lt hs hg =
         let l = text-length in
         let z = at-end in
@@ -158,6 +174,7 @@ module _ (caption : List ℕ → List ℕ) (e end : ℕ) (P : List Cell) (bs ns 
         let y : getD (set tags d i) (length (s .opened)) 0 ≡ i = rw (← w .deep) (getD-set-same tags d i 0 hg) in
         record {
           token = opens (take k (drop i (take e P))) (attributionOf (drop i (take e bs)));
+          behind = [];
           reads = read-opener (take e P) (take e bs) text-bytes i ek n;
           stands = record {
             text = rw append-nil (w .text);
@@ -167,28 +184,34 @@ module _ (caption : List ℕ → List ℕ) (e end : ℕ) (P : List Cell) (bs ns 
         }
 
     module _ {j : ℕ} (zk : k ≡ 0) (ej : j ≡ closerSize (drop i (take e bs))) where
-      pub takes-text : j ≡ 0 → i < e → (v' : List Cell) (to' : ℕ) → Appends (take end (cells bs ns)) to v' to' (part i (i + 1) (cells bs ns))
-          → Takes caption e P (take end (cells bs ns)) to starts tags d i v' to' starts tags d (i + 1) s
+      -- with the text up to the next `[`
+      pub takes-text : j ≡ 0 → i < e → {q : ℕ} → q ≡ i + 1 + toFirst (is "[") (drop (i + 1) (take e bs)) → (v' : List Cell) (to' : ℕ) → Appends (take end (cells bs ns)) to v' to' (part i q (cells bs ns))
+          → Takes caption e P (take end (cells bs ns)) to starts tags d i v' to' starts tags d q s
       unfolding step
-      takes-text zj lt v' to' a =
+      takes-text zj lt {q} eq v' to' a =
           let r : length (take e bs) ≡ e = length-take-le e bs (omega arith) in
-          let c : part i (i + 1) (cells bs ns) ≡ getD (take e P) i feed ∷ [] =
-          part-cons bs ns i (i + 1) (omega arith) (omega arith) (omega arith) ∙ rw (part-end (i + 1) (i + 1) (cells bs ns) (omega arith), text-cells, getD-take e (cells bs ns) i feed lt, cells-at bs ns i feed (omega arith) (omega arith)) in
+          let w' = run-within (take e bs) (i + 1) (omega arith) eq in
+          let p : part i q (cells bs ns) ≡ getD (take e P) i feed ∷ part (i + 1) q (cells bs ns) =
+          part-cons bs ns i q (omega (arith, w')) (omega (arith, w')) (omega (arith, w')) ∙ rw (text-cells, getD-take e (cells bs ns) i feed lt, cells-at bs ns i feed (omega arith) (omega arith)) in
           record {
             token = text (getD (take e P) i feed);
-            reads = read-text (take e P) (take e bs) text-bytes i (omega arith) ek zk ej zj;
-            stands = record {
-              text = rw (← append-assoc (opening (s .opened)) (s .now) (getD (take e P) i feed ∷ []), ← append-assoc P (opening (s .opened) ++ s .now) (getD (take e P) i feed ∷ []), sym c) (a .step _ (w .text));
+            behind = part (i + 1) q (cells bs ns);
+            reads =
+                read-text (take e P) (take e bs) text-bytes i (omega arith) ek zk ej zj
+                ∙ ap (λ (x : List Token). text (getD (take e P) i feed) ∷ x) (reads-on i q eq (omega (arith, w')));
+            stands = subst (Stands e P v' to' starts tags d) (sym (more-is (part (i + 1) q (cells bs ns)) (step caption (text (getD (take e P) i feed)) s))) (record {
+              text = subst (Holds v' to') (joined-on (getD (take e P) i feed) (part (i + 1) q (cells bs ns)) (part i q (cells bs ns)) p) (a .step _ (w .text));
               deep = w .deep;
               stood = w .stood;
-            };
+            });
           }
 
       -- no quote is open
       pub takes-stray : (j ≡ 0 → ⊥) → d ≡ 0 → Takes caption e P (take end (cells bs ns)) to starts tags d i (take end (cells bs ns)) to starts tags d (i + j) s
-      unfolding step closed
+      unfolding step closed texts more
       takes-stray n zd = record {
         token = closes (take j (drop i (take e P)));
+        behind = [];
         reads = read-closer (take e P) (take e bs) text-bytes i ek zk ej n;
         stands = by (s .opened) (sym (w .deep) ∙ zd) w;
       }
@@ -229,9 +252,10 @@ module _ (caption : List ℕ → List ℕ) (e end : ℕ) (P : List Cell) (bs ns 
       → (v' : List Cell) (to' : ℕ) → ((now : List Cell) (q : Quote) (qs : List Quote) → Stands e P (take end (cells bs ns)) to starts tags d (record { now = now; opened = q ∷ qs })
       → Stands e P v' to' starts tags (d - 1) (record { now = close caption q now; opened = qs }))
       → Takes caption e P (take end (cells bs ns)) to starts tags d i v' to' starts tags (d - 1) (i + j) s
-  unfolding step closed
+  unfolding step closed texts more
   takes-close i {k} {j} ek zk ej n pos v' to' cl = record {
     token = closes (take j (drop i (take e P)));
+    behind = [];
     reads = read-closer (take e P) (take e bs) text-bytes i ek zk ej n;
     stands = by (s .opened) w;
   }
@@ -275,9 +299,9 @@ module _ (caption : List ℕ → List ℕ) (e base end : ℕ) (bs ns : List ℕ)
           → TakesOne caption e base end bs ns to starts tags d i bs' ns' to' starts tags (d - 1) (i + j)
       closer-taken n pos cl = record { each = λ P s eP w. takes-close caption e end P bs ns to starts tags d s w (omega arith) (omega arith) hb hn ht i ek zk ej n pos _ _ (λ now q qs h. cl .each P now q qs eP h) }
 
-      pub text-taken : j ≡ 0 → {bs' ns' : List ℕ} {to' : ℕ} → AppendsIn bs ns end to bs' ns' to' (part i (i + 1) (cells bs ns))
-          → TakesOne caption e base end bs ns to starts tags d i bs' ns' to' starts tags d (i + 1)
-      text-taken zj a = record { each = λ P s eP w. takes-text caption e end P bs ns to starts tags d s w (omega arith) (omega arith) hb hn ht i ek zk ej zj lt _ _ (a .appends) }
+      pub text-taken : j ≡ 0 → {q : ℕ} → q ≡ i + 1 + toFirst (is "[") (drop (i + 1) (take e bs)) → {bs' ns' : List ℕ} {to' : ℕ} → AppendsIn bs ns end to bs' ns' to' (part i q (cells bs ns))
+          → TakesOne caption e base end bs ns to starts tags d i bs' ns' to' starts tags d q
+      text-taken zj eq a = record { each = λ P s eP w. takes-text caption e end P bs ns to starts tags d s w (omega arith) (omega arith) hb hn ht i ek zk ej zj lt eq _ _ (a .appends) }
 
 -- ---- all tokens
 
@@ -361,26 +385,41 @@ module _ (caption : List ℕ → List ℕ) where
           }
 
       module _ {v' : List Cell} {to' : ℕ} {starts' tags' : List ℕ} {d' i' : ℕ} (t : Takes caption e P v to starts tags d i v' to' starts' tags' d' i' (w .state)) (size' : length v' ≡ end) where
-        on-need : max (end - length P) (quotesNeed caption (take e P)) ≡ max (end - length P) (runNeed caption (tokens 0 (drop i' (take e P))) (step caption (t .token) (w .state)))
-        unfolding runNeed
+        rest : List Token
+        rest = tokens 0 (drop i' (take e P))
+
+        stepped : State
+        stepped = step caption (t .token) (w .state)
+
+        on-need : max (end - length P) (quotesNeed caption (take e P)) ≡ max (end - length P) (runNeed caption (texts (t .behind) rest) stepped)
+        unfolding runNeed rest stepped
         on-need = let n = rw (t .reads) at (w .need) in let z = small in omega (arith, n, z)
 
+        on-small : to' ≤ end → total (more stepped (t .behind)) ≤ end - length P
+        unfolding stepped
+        on-small le =
+            let a = holds-total v' to' starts' tags' d' _ (t .stands) in
+            let b = t .stands .text .end (holds-fits v' to' _ (t .stands .text) (omega arith)) in
+            omega arith
+
         pub running-on : to' ≤ end → Running v' to' starts' tags' d' i'
-        unfolding run
+        unfolding run rest stepped
         running-on le = record {
-          state = step caption (t .token) (w .state);
+          state = more (step caption (t .token) (w .state)) (t .behind);
           stands = t .stands;
-          same = rw (t .reads) at (w .same);
-          need = on-need;
-          deep = rw (t .stands .deep) (deep-step (t .token) _ (w .state) (rw (t .reads, w .stands .deep) at (w .deep)));
+          same = rw (t .reads) at (w .same) ∙ run-texts caption (t .behind) (tokens 0 (drop i' (take e P))) (step caption (t .token) (w .state));
+          need = on-need ∙ need-texts caption (end - length P) (t .behind) (tokens 0 (drop i' (take e P))) (step caption (t .token) (w .state)) (on-small le);
+          deep = rw (t .stands .deep, more-opened (t .behind) (step caption (t .token) (w .state)))
+              (sym (deep-texts _ (t .behind) (tokens 0 (drop i' (take e P)))) ∙ deep-step (t .token) _ (w .state) (rw (t .reads, w .stands .deep) at (w .deep)));
         }
 
         pub running-full : end < to' → end < length P + quotesNeed caption (take e P)
+        unfolding rest stepped
         running-full lt =
-            let s' : State = step caption (t .token) (w .state) in
+            let s' : State = more (step caption (t .token) (w .state)) (t .behind) in
             let a = holds-total v' to' starts' tags' d' s' (t .stands) in
             let over : length P + total s' ≤ end → ⊥ = λ le. (let q = t .stands .text .end (omega arith) in omega arith) in
-            let b = total-needed (tokens 0 (drop i' (take e P))) s' in
+            let b = texts-needed caption (t .behind) (tokens 0 (drop i' (take e P))) (step caption (t .token) (w .state)) (total-needed (tokens 0 (drop i' (take e P)))) in
             let n = on-need in
             elim (decLe (length P + total s') end) [ yes p ↦ absurd (over p) | no p ↦ omega (arith, n, b, p) ]
 

@@ -5,7 +5,9 @@
 --   Stands .. s           the area holds what the state s of the machine has
 --   Closes ..             the last content of an area has been replaced by another text; ClosesIn: of a pair of slices
 --   ClosesLast, ClosesAll the innermost open quote has been closed; all that are open have
---   Takes, TakesOne       one token has been taken
+--   texts x r             text cell by cell, and the tokens r behind it
+--   more s x              the state s, and text behind it
+--   Takes, TakesOne       one token has been taken, and text behind it
 --   Reached, Runs         all tokens have been taken, as far as they fit
 --   Leaves .. need        the area holds the pass's result, where the need does not exceed the room
 -- Assumes nothing.
@@ -16,7 +18,7 @@ use lib.ListN.{length, take, drop, getD}
 use Rattle.text.specs.Cells.{Cell, cells, bytes, part}
 use Rattle.text.specs.Writes.{Holds}
 use Rattle.quote_lines.specs.Tags.{attributionOf}
-use Rattle.quote_blocks.specs.Quotes.{Token, tokens, Quote, State, opening, close, step, finish, finishNeed, quotes, quotesNeed}
+use Rattle.quote_blocks.specs.Quotes.{Token, text, tokens, Quote, State, opening, close, step, finish, finishNeed, quotes, quotesNeed}
 
 -- the area is no longer than the output, and behind it there is room for as much again: for the joined texts of an attribution; places fit
 -- in 32 bits
@@ -46,12 +48,21 @@ pub record Closes (v : List Cell) (start to : ℕ) (v' : List Cell) (to' : ℕ) 
 pub record ClosesIn (bs ns : List ℕ) (end start to : ℕ) (bs' ns' : List ℕ) (to' : ℕ) (block : List Cell → List Cell) : Type 0 where
   pub closes : Closes (take end (cells bs ns)) start to (take end (cells bs' ns')) to' block
 
+unfoldable pub texts : List Cell → List Token → List Token
+texts [] r = r
+texts (c ∷ x) r = text c ∷ texts x r
+
+unfoldable pub more : State → List Cell → State
+more s [] = s
+more s (c ∷ x) = more (record { now = s .now ++ c ∷ []; opened = s .opened }) x
+
 -- from place i to place i' of the text
 pub record Takes (caption : List ℕ → List ℕ) (e : ℕ) (P v : List Cell) (to : ℕ) (starts tags : List ℕ) (depth i : ℕ)
     (v' : List Cell) (to' : ℕ) (starts' tags' : List ℕ) (depth' i' : ℕ) (s : State) : Type 0 where
   pub token : Token
-  pub reads : tokens 0 (drop i (take e P)) ≡ token ∷ tokens 0 (drop i' (take e P))
-  pub stands : Stands e P v' to' starts' tags' depth' (step caption token s)
+  pub behind : List Cell
+  pub reads : tokens 0 (drop i (take e P)) ≡ token ∷ texts behind (tokens 0 (drop i' (take e P)))
+  pub stands : Stands e P v' to' starts' tags' depth' (more (step caption token s) behind)
 
 -- in the area of a pair of slices, from whatever may be open
 pub record TakesOne (caption : List ℕ → List ℕ) (e base end : ℕ) (bs ns : List ℕ) (to : ℕ) (starts tags : List ℕ) (depth i : ℕ)

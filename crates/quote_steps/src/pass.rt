@@ -6,6 +6,7 @@ use text::PostAt;
 use text::TextAt;
 use text::area::copy_within;
 use text::scan::next_bracket;
+use text::scan::next_byte;
 ghost use mathlib.Core.Path.{_≡_};
 ghost use mathlib.Core.Bool.{false};
 ghost use Prim.Native.Nat.{_+_, _-_, _≤_, _<_};
@@ -27,7 +28,7 @@ pub struct Open {
     pub depth: usize,
 }
 
-// Takes one token of the text before e.
+// Takes one token of the text before e, a text with all up to the next `[`.
 fn take_token(
     work: &mut [u8],
     numbers: &mut [u32],
@@ -92,9 +93,10 @@ fn take_token(
             depth: depth - 1,
         };
     }
-    let r = copy_within(work, numbers, at, PostAt(i + 1), end, to);
+    let next = next_byte(&work[..e], PostAt(i + 1), b'[');
+    let r = copy_within(work, numbers, at, next, end, to);
     Open {
-        at: PostAt(i + 1),
+        at: next,
         bracket,
         to: r,
         depth,

@@ -1,12 +1,12 @@
 -- Laws of a whole call. Assumes nothing.
 use mathlib.Core.Path.{_≡_, refl, sym, ap, _∙_}
-use mathlib.Core.Bool.{Bool, true, false}
-use mathlib.Core.List.{List, []}
-use Prim.Native.Nat.{ℕ, _+_, _-_, _*_, _/_, _≤_, _<_}
+use mathlib.Core.Bool.{Bool, true, false, cond}
+use mathlib.Core.List.{List, [], _++_}
+use Prim.Native.Nat.{ℕ, _+_, _-_, _*_, _≤_, _<_}
 use native.Mathlib.Omega.{arith}
 use native.Mathlib.Decide.{decLe}
-use lib.ListN.{length, take, drop, length-map}
-use lib.Seq.{take-take}
+use lib.ListN.{length, take, drop, length-map, length-append}
+use lib.Seq.{take-take, length-take-le, take-append-le}
 use lib.Dec.{ltb}
 use borrow.Author.Tests.{lt-ltb, le-ltb, ltb-false}
 use Rattle.text.specs.Cells.{Cell, cells, cellsOf, bytes, part}
@@ -17,6 +17,8 @@ use Rattle.text.specs.declared.lent.Checked.{Checked}
 use Rattle.text.specs.declared.lent.Checked.the-variants as C
 use Rattle.text.proofs.Clearing.{laid-cleared}
 use Rattle.text.proofs.Sources.{cells-taken, source-front}
+use Rattle.losses.specs.declared.Loss.{Loss}
+use Rattle.losses.specs.Records.{recordsLent}
 use Rattle.attribution_parts.specs.Attribution.{caption}
 use Rattle.quote_lines.specs.Masks.{visible}
 use Rattle.quote_lines.specs.Lines.{tags, linesOf}
@@ -26,7 +28,7 @@ use Rattle.quote_steps.specs.Passes.{Leaves}
 use Rattle.quotes.specs.declared.Quoted.{Quoted}
 use Rattle.quotes.specs.declared.Quoted.the-variants.{Done, Refused}
 use Rattle.quotes.specs.Losses.{quoteLosses, lossBytes, lossRecords, ListsLosses}
-use Rattle.quotes.specs.Calls.{limited, spaced, answerBy, converted, Filled, Answers, Listed}
+use Rattle.quotes.specs.Calls.{limited, spaced, answerBy, converted, lossesBy, Filled, Called, Noted, Answers, Numbered, Spelled}
 
 -- ---- losses
 
@@ -34,22 +36,23 @@ module _ (original s rs bs rs' bs' : List ℕ) (losses words : ℕ) (w : ListsLo
   pub listed-counts : (losses ≡ length (quoteLosses x)) × (words ≡ length (lossBytes x))
   listed-counts = let q = w .words x e .end in (w .count x e, omega (arith, q))
 
-  -- what has been listed, where all of it fits
-  pub listed-there : 5 * losses ≤ length rs → words ≤ length bs → Listed original x rs' bs' losses words
-  unfolding lossRecords linesOf
-  listed-there h g =
-      let p = w .records x e in
+  -- the loss bytes, where they fit
+  pub spelled-there : words ≤ length bs → Spelled x bs' losses words
+  spelled-there g =
       let q = w .words x e in
       let n : length (bytes x) ≡ length x = length-map x (λ (c : Cell). c .byte) in
       let m : length (bytes x) ≡ length s = ap length e in
       record {
         count = w .count x e;
         size = omega (arith, q .end);
-        records-long = omega (arith, p .end);
-        records-there = p .text h;
         words-there = q .text g;
         few = omega (arith, w .few);
       }
+
+  -- the numbers of the records, where these fit
+  pub records-there : 5 * losses ≤ length rs → take (5 * losses) rs' ≡ lossRecords original x
+  unfolding lossRecords linesOf
+  records-there h = w .records x e .text h
 
 -- ---- which refusal
 
@@ -60,27 +63,46 @@ limited-fine false false true h = let z : _≡_ {A = ℕ} 0 1 = cc in absurd (om
 limited-fine false false false h = (refl, (refl, refl))
 
 -- within the limits
-pub within : (deep : Bool) (j b losses words : ℕ) → limited deep (ltb (j / 5) losses) (ltb b words) ≡ C.Fine → (deep ≡ false) × ((5 * losses ≤ j) × (words ≤ b))
-within deep j b losses words h =
-    let f = limited-fine deep (ltb (j / 5) losses) (ltb b words) h in
-    let p : losses ≤ j / 5 = ltb-false (j / 5) losses (f .1 .0) in
-    (f .0, (omega (arith, p), ltb-false b words (f .1 .1)))
+pub within : (deep : Bool) (j b losses words : ℕ) → limited deep (ltb j losses) (ltb b words) ≡ C.Fine → (deep ≡ false) × ((losses ≤ j) × (words ≤ b))
+within deep j b losses words h = let f = limited-fine deep (ltb j losses) (ltb b words) h in (f .0, (ltb-false j losses (f .1 .0), ltb-false b words (f .1 .1)))
 
-pub converted-by : (x : List Cell) (m j b j' b' losses words : ℕ) (deep : Bool) → j' ≡ j → b' ≡ b → deep ≡ tooDeep x → losses ≡ length (quoteLosses x) → words ≡ length (lossBytes x)
-    → answerBy (limited deep (ltb (j' / 5) losses) (ltb b' words)) (spaced x m) ≡ converted x m j b
+pub converted-by : (x : List Cell) (m j b b' losses words : ℕ) (deep : Bool) → b' ≡ b → deep ≡ tooDeep x → losses ≡ length (quoteLosses x) → words ≡ length (lossBytes x)
+    → answerBy (limited deep (ltb j losses) (ltb b' words)) (spaced x m) ≡ converted x m j b
 unfolding converted
-converted-by x m j b j' b' losses words deep ej eb d l w = rw (ej, eb, d, l, w)
+converted-by x m j b b' losses words deep eb d l w = rw (eb, d, l, w)
 
 -- ---- the answer
 
-module _ {text : List ℕ} {m k j b : ℕ} {wanted l : Quoted} {out plain records words : List ℕ} where
-  pub answers-refused : (c : Checked) (r : Refusal) (else : Quoted) → answerBy c else ≡ wanted → c ≡ C.Refused r → l ≡ Refused r
-      → Filled [] [] [] m k j b out plain records words → Answers text m k j b wanted l out plain records words
+module _ {text : List ℕ} {m k b : ℕ} {wanted l : Quoted} {out plain words : List ℕ} where
+  pub answers-refused : (c : Checked) (r : Refusal) (else : Quoted) → answerBy c else ≡ wanted → c ≡ C.Refused r → l ≡ Refused r → Filled [] [] m k b out plain words → Answers text m k b wanted l out plain words
   answers-refused c r else w e g f = rw g (record { answer = ap (λ (a : Checked). answerBy a else) (sym e) ∙ w; filled = f })
 
-  pub answers-fine : (c : Checked) (else : Quoted) → answerBy c else ≡ wanted → c ≡ C.Fine → Answers text m k j b else l out plain records words
-      → Answers text m k j b wanted l out plain records words
+  pub answers-fine : (c : Checked) (else : Quoted) → answerBy c else ≡ wanted → c ≡ C.Fine → Answers text m k b else l out plain words → Answers text m k b wanted l out plain words
   answers-fine c else w e a = record { answer = a .answer ∙ ap (λ (a : Checked). answerBy a else) (sym e) ∙ w; filled = a .filled }
+
+-- ---- the losses of an answer
+
+pub refused-noted : (text : List ℕ) (j : ℕ) (l : Quoted) (r : Refusal) (numbers : List ℕ) → l ≡ Refused r → Noted text j l numbers
+refused-noted text j l r numbers e = rw e (record { room = omega arith; few = omega arith; there = refl })
+
+-- behind the first `base` numbers others were written
+module _ (text : List ℕ) (j losses base : ℕ) (ns rest : List ℕ) (few : losses ≤ j) (there : take (5 * losses) (take base ns) ≡ lossRecords text (cellsOf text)) (room : 5 * losses ≤ base) (in-numbers : base ≤ length ns)
+    (count : losses ≡ length (quoteLosses (cellsOf text))) where
+  noted-by : (over : Bool) (l : Quoted) (size words : ℕ) → l ≡ cond over (Refused NoSpace) (Done size (length (quoteLosses (cellsOf text))) words) → Noted text j l (take base ns ++ rest)
+  noted-by true l size words e = refused-noted text j l NoSpace (take base ns ++ rest) e
+  noted-by false l size words e =
+      let n : length (take base ns) ≡ base = length-take-le base ns in-numbers in
+      let z = length-append (take base ns) rest in
+      rw (e, ← count) (record { room = omega (arith, n, z); few = few; there = take-append-le (5 * losses) (take base ns) rest (omega (arith, n)) ∙ there })
+
+  pub spaced-noted : (m : ℕ) (l : Quoted) → l ≡ spaced (cellsOf text) m → Noted text j l (take base ns ++ rest)
+  unfolding spaced
+  spaced-noted m l e = noted-by (ltb m (quotesNeed caption (cellsOf text))) l _ _ e
+
+-- the records are filled from the numbers
+pub called : (text : List ℕ) (m k j b w n : ℕ) (r : Quoted) (out plain numbers words : List ℕ) (records : List Loss) → Numbered text m k j b w n r out plain numbers words
+    → records ≡ recordsLent j (take (5 * lossesBy r) numbers) → Called text m k j b w n r out plain records words
+called text m k j b w n r out plain numbers words records c e = record { answer = c .0 .answer; filled = c .0 .filled; listed = e ∙ ap (recordsLent j) (c .1 .there) }
 
 -- ---- the pass
 
@@ -95,8 +117,8 @@ module _ (text : List ℕ) (y v : List Cell) (m n end r : ℕ) (z : y ≡ cellsO
   pub pass-up : r ≤ end → n ≤ r
   pass-up fit = let w = p .fits (let h = in-room fit in omega arith) .0 in omega arith
 
-  module _ {k j b : ℕ} {l : Quoted} {out plain records words : List ℕ} where
-    pub written-full : end < r → l ≡ Refused NoSpace → Filled [] [] [] m k j b out plain records words → Answers text m k j b (spaced (cellsOf text) m) l out plain records words
+  module _ {k b : ℕ} {l : Quoted} {out plain words : List ℕ} where
+    pub written-full : end < r → l ≡ Refused NoSpace → Filled [] [] m k b out plain words → Answers text m k b (spaced (cellsOf text) m) l out plain words
     unfolding spaced
     written-full far g f =
         let q = quotes-fit caption y in
@@ -104,11 +126,11 @@ module _ (text : List ℕ) (y v : List Cell) (m n end r : ℕ) (z : y ≡ cellsO
         let over : m < quotesNeed caption (cellsOf text) = elim (decLe (quotesNeed caption y) m) [ yes h ↦ absurd (let w = p .fits (omega arith) .0 in omega arith) | no h ↦ omega arith ] in
         rw g (record { answer = rw (lt-ltb m (quotesNeed caption (cellsOf text)) over); filled = f })
 
-    pub written-done : (rs bs : List ℕ) (losses size : ℕ) → r ≤ end → Listed text (cellsOf text) rs bs losses size → length rs ≡ j → length bs ≡ b
-        → l ≡ Done (r - n) losses size → LaidOut (part n r v) m k out plain → records ≡ cleared (5 * losses) rs → words ≡ cleared size bs
-        → Answers text m k j b (spaced (cellsOf text) m) l out plain records words
+    pub written-done : (bs : List ℕ) (losses size : ℕ) → r ≤ end → Spelled (cellsOf text) bs losses size → length bs ≡ b
+        → l ≡ Done (r - n) losses size → LaidOut (part n r v) m k out plain → words ≡ cleared size bs
+        → Answers text m k b (spaced (cellsOf text) m) l out plain words
     unfolding spaced part
-    written-done rs bs losses size fit w lr lb g laid er eb =
+    written-done bs losses size fit w lb g laid eb =
         let h = in-room fit in
         let d = p .fits (omega arith) in
         let e : quotesNeed caption y ≡ quotesNeed caption (cellsOf text) = ap (quotesNeed caption) z in
@@ -119,7 +141,6 @@ module _ (text : List ℕ) (y v : List Cell) (m n end r : ℕ) (z : y ≡ cellsO
           answer = rw (le-ltb m (quotesNeed caption (cellsOf text)) (omega arith), ← s, ← w .count, ← w .size);
           filled = record {
             laid = rw (← c) laid;
-            listed = er ∙ laid-cleared (lossRecords text (cellsOf text)) rs (5 * losses) j lr (w .records-long) (w .records-there);
             spelled = eb ∙ laid-cleared (lossBytes (cellsOf text)) bs size b lb (sym (w .size)) (w .words-there);
           };
         })

@@ -2,15 +2,18 @@
 use mathlib.Core.Path.{_≡_, refl, ap, _∙_}
 use Prim.Native.Nat.{ℕ, _+_, _-_, _≤_, _<_}
 use native.Mathlib.Omega.{arith}
-use mathlib.Core.Bool.{true, false}
+use mathlib.Core.Bool.{true, false, cond}
 use mathlib.Core.List.{List}
 use lib.ListN.{length, drop}
 use borrow.Author.Tests.{lt-ltb, le-ltb}
-use Rattle.text.specs.Ascii.{toBracket}
+use lib.Dec.{ltb}
+use Rattle.text.specs.Ascii.{is, toFirst, toBracket}
 use Rattle.text.specs.Cells.{Cell, bytes}
 use Rattle.quote_lines.specs.Tags.{NextBracket, openers, closers, openerSize, closerSize}
 use Rattle.quote_blocks.specs.Quotes.{tokens, tooDeepFrom, tooDeep, DepthBehind, TooDeep}
 use Rattle.quote_lines.proofs.Tagging.{bracket-on, behind-within, behind-bracket}
+use Rattle.quote_lines.proofs.Plain.{bracket-past}
+use Rattle.quote_steps.proofs.Texts.{run-within, read-run, deep-texts}
 use Rattle.quote_blocks.proofs.Reading.{read-opener, read-closer, read-text, read-end, deep-opener, deep-closer, deep-text}
 
 -- ---- one token
@@ -34,9 +37,17 @@ module _ (s : List ℕ) (i b d k : ℕ) (lt : i < length s) (eb : b ≡ i + toBr
         let t = behind-bracket closers s i (omega arith) ej eb n in
         ((omega arith, w), ((λ le. absurd (omega (arith, t, le)), omega arith), record { same = λ x e. ap (tooDeepFrom d) (read-closer x s e i ek z ej n) ∙ deep-closer d _ _ h q }))
 
-    pub depth-text : j ≡ 0 → Behind s i d (i + 1) b d
-    depth-text y =
-        ((omega arith, omega arith), ((λ le. bracket-on s i b (omega arith) eb lt le, omega arith), record { same = λ x e. ap (tooDeepFrom d) (read-text x s e i lt ek z ej y) ∙ deep-text d _ _ h }))
+    -- with the text up to the next `[`
+    pub depth-text : j ≡ 0 → {q : ℕ} → q ≡ i + 1 + toFirst (is "[") (drop (i + 1) s) → Behind s i d q b d
+    depth-text y {q} eq =
+        let w = run-within s (i + 1) (omega arith) eq in
+        let nb : NextBracket s (i + 1) b = λ le. bracket-on s i b (omega arith) eb lt le in
+        ((omega (arith, w), w .1), ((bracket-past s (i + 1) q (w .0) (w .1) nb, omega arith), record { same = λ x e. ap (tooDeepFrom d) (read-text x s e i lt ek z ej y) ∙ deep-text d _ _ h ∙ ap (cond (ltb 64 d) true) (later x e q eq) }))
+      where
+        later : (x : List Cell) → bytes x ≡ s → (q : ℕ) → q ≡ i + 1 + toFirst (is "[") (drop (i + 1) s) → tooDeepFrom d (tokens 0 (drop (i + 1) x)) ≡ tooDeepFrom d (tokens 0 (drop q x))
+        later x e q eq =
+            let n : toFirst (is "[") (drop (i + 1) s) ≤ toFirst (is "[") (drop (i + 1) (bytes x)) = rw e (omega arith) in
+            ap (tooDeepFrom d) (read-run (i + 1) (toFirst (is "[") (drop (i + 1) s)) x n) ∙ deep-texts d _ _ ∙ rw (← eq)
 
 -- ---- all tokens
 

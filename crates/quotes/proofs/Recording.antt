@@ -4,15 +4,16 @@ use Prim.Native.Nat.{ℕ, _+_, _-_, _*_, _≤_, _<_}
 use native.Mathlib.Numerals.{add-one}
 use native.Mathlib.Omega.{arith}
 use mathlib.Core.List.{List, [], _∷_, _++_, append-assoc, append-nil}
-use lib.ListN.{length, take, drop, length-append, length-drop}
-use lib.Seq.{drop-drop, length-take-le}
+use lib.ListN.{length, take, drop, length-append, length-drop, drop-of-length-le}
+use lib.Seq.{drop-drop, length-take-le, take-at, drop-at, take-all}
 use Rattle.text.specs.Ascii.{toBracket}
 use Rattle.text.specs.Cells.{Cell, bytes}
 use Rattle.attribution_parts.specs.Attribution.{Loss, losses}
 use Rattle.attribution_losses.specs.Lists.{Puts, recordsOf, lossWords, Lists}
 use Rattle.attribution_losses.proofs.Listing.{puts-none, puts-then, puts-as, lists-none}
 use Rattle.quote_lines.specs.Tags.{NextBracket, openers, closers, openerSize, closerSize, attributionOf}
-use Rattle.quote_lines.specs.Lines.{Tag, place, nextAfter, lineAt, linesFrom}
+use Rattle.quote_lines.specs.Lines.{Tag, tags, place, nextAfter, lineAt, linesFrom}
+use Rattle.quote_lines.specs.Tables.{Table}
 use Rattle.quote_lines.proofs.Tagging.{bracket-on, behind-within, behind-next}
 use Rattle.quote_lines.proofs.Tabling.{opener-long}
 use Rattle.quote_blocks.specs.Quotes.{attributionsIn, attributions}
@@ -38,6 +39,44 @@ module _ (s : List ℕ) (i k size : ℕ) (lt : i < length s) (e : k ≡ openerSi
       let d : length (drop (i + 7) s) ≡ length s - (i + 7) = length-drop (i + 7) s in
       let l : length (take (i + 7 + size - (i + 7)) (drop (i + 7) s)) ≡ i + 7 + size - (i + 7) = length-take-le (i + 7 + size - (i + 7)) (drop (i + 7) s) (omega (arith, r .0, r .1)) in
       omega (arith, r .0, l)
+
+-- ---- numbers of records before a place, tags from there on
+
+-- before the place ys have been written
+module _ (xs ys : List ℕ) (base : ℕ) (le : base ≤ length xs) (l : length ys ≡ length (take base xs)) where
+  long : length ys ≡ base
+  long = l ∙ length-take-le base xs le
+
+  pub front-listed : {A : Type 0} {s : List ℕ} {ts : List Tag} {bs bs' : List ℕ} {i quote next k to i' quote' next' k' to' : ℕ}
+      → A × ListsToken s ts (take base xs) bs i quote next k to ys bs' i' quote' next' k' to'
+      → (A × ListsToken s ts (take base xs) bs i quote next k to (take base (ys ++ drop base xs)) bs' i' quote' next' k' to') × (drop base (ys ++ drop base xs) ≡ drop base xs)
+  front-listed p = (rw (take-at ys (drop base xs) base long) p, drop-at ys (drop base xs) base long)
+
+pub front-kept : (xs rest : List ℕ) (base : ℕ) → base ≤ length xs → take base (take base xs ++ rest) ≡ take base xs
+front-kept xs rest base le = take-at (take base xs) rest base (length-take-le base xs le)
+
+pub front-long : (xs rest : List ℕ) (base : ℕ) → base ≤ length xs → base ≤ length (take base xs ++ rest)
+front-long xs rest base le = let n = length-append (take base xs) rest in let m = length-take-le base xs le in omega (arith, n, m)
+
+pub back-long : (xs : List ℕ) (base : ℕ) → length (take (length xs - base) (drop base xs)) ≡ length xs - base
+back-long xs base = let n = length-drop base xs in length-take-le (length xs - base) (drop base xs) (omega (arith, n))
+
+-- the table stands behind the place
+pub back-table : (s xs : List ℕ) (base count : ℕ) → Table s (drop base xs) 0 count → Table s (take (length xs - base) (drop base xs)) 0 count
+back-table s xs base count t = let n = length-drop base xs in rw (take-all (length xs - base) (drop base xs) (omega (arith, n))) t
+
+pub same-table : (s ns ns' : List ℕ) (count : ℕ) → ns ≡ ns' → Table s ns' 0 count → Table s ns 0 count
+same-table s ns ns' count e t = rw e t
+
+-- from the place on ys have been written
+pub back-is : (xs ys : List ℕ) (base : ℕ) → base ≤ length xs → drop base (take base xs ++ (ys ++ drop (length xs - base) (drop base xs))) ≡ ys
+back-is xs ys base le =
+    let n = length-drop base xs in
+    drop-at (take base xs) (ys ++ drop (length xs - base) (drop base xs)) base (length-take-le base xs le)
+    ∙ ap (λ (r : List ℕ). ys ++ r) (drop-of-length-le (drop base xs) {i = length xs - base} (omega (arith, n))) ∙ append-nil ys
+
+pub lists-as : {s m v rs rs₀ bs rs' bs' : List ℕ} {k to : ℕ} → m ≡ v → rs ≡ rs₀ → ListsLosses s (tags 1 0 m) rs bs rs' bs' k to → ListsLosses s (tags 1 0 v) rs₀ bs rs' bs' k to
+lists-as e f p = rw (e, f) at p
 
 -- ---- one token
 

@@ -1,18 +1,22 @@
--- A whole call of `convert_quotes`, which is lent m output bytes, k origins, j record numbers (five a record) and b loss bytes.
+-- A whole call of `convert_quotes`, which is lent m output bytes, k origins, j records and b loss bytes.
 --   limited deep many long   the first of document 01's refusals 5, 7, 8 that applies
 --   spaced x m               the answer for a text x within these limits: document 01's refusal 6, or the lengths of what is left
 --   converted x m j b        the answer for a text x that is right: 5, 7, 8, 6, each over the whole text
 --   answered text lent j b   the answer of the call: document 01's refusals 1 to 4, then these
 --   numberOfAnswer r         document 01's number of an answer: 0 where the call is not turned back
 --   countsOfAnswer r         its values: the text's length, the losses and the loss bytes; 0 each on a refusal
---   textOf, recordsIn, wordsIn   what the call leaves: text, records and loss bytes, or nothing on refusal
---   Filled ..                the four slices hold such a text, records and loss bytes, with zeros behind
---   Answers .. wanted r ..   r comes back, as is wanted, and the four slices are filled accordingly
+--   textOf, recordsIn, wordsIn   what the call leaves: text, numbers of the records and loss bytes, or nothing on refusal
+--   Filled ..                output, origins and loss bytes hold such a text and loss bytes, with zeros behind
 --   Called ..                what comes back from the call, and what the lent slices then hold
---   Listed s x ..            in code: the records and loss bytes of the text x, with lines in the original text s, stand at the front of slices
+-- In code, where the losses are listed as plain numbers:
+--   lossesBy r               how many there are: none on a refusal
+--   Noted ..                 the numbers then begin with theirs, five each
+--   Answers .. wanted r ..   r comes back, as is wanted, and output, origins and loss bytes are filled accordingly
+--   Numbered ..              this of a call, with the losses noted
+--   Spelled x ..             the loss bytes of the text x stand at the front of a slice
 -- Assumes nothing.
 use mathlib.Core.Path.{_≡_}
-use Prim.Native.Nat.{ℕ, _*_, _/_, _≤_}
+use Prim.Native.Nat.{ℕ, _*_, _≤_}
 use mathlib.Core.Bool.{Bool, cond}
 use mathlib.Core.List.{List, [], _∷_}
 use lib.ListN.{length, take}
@@ -25,6 +29,8 @@ use Rattle.text.specs.declared.lent.Spans.the-variants.{Without}
 use Rattle.text.specs.declared.lent.Lent.{Lent}
 use Rattle.text.specs.declared.lent.Checked.{Checked}
 use Rattle.text.specs.declared.lent.Checked.the-variants as C
+use Rattle.losses.specs.declared.Loss.{Loss}
+use Rattle.losses.specs.Records.{recordsLent}
 use Rattle.attribution_parts.specs.Attribution.{caption}
 use Rattle.quote_blocks.specs.Quotes.{tooDeep, quotes, quotesNeed}
 use Rattle.quotes.specs.declared.Quoted.{Quoted}
@@ -42,9 +48,8 @@ abbrev pub answerBy : Checked → Quoted → Quoted
 answerBy (C.Refused r) else = Refused r
 answerBy C.Fine else = else
 
--- a record takes five numbers
 unfoldable pub converted : (x : List Cell) → (m j b : ℕ) → Quoted
-converted x m j b = answerBy (limited (tooDeep x) (ltb (j / 5) (length (quoteLosses x))) (ltb b (length (lossBytes x)))) (spaced x m)
+converted x m j b = answerBy (limited (tooDeep x) (ltb j (length (quoteLosses x))) (ltb b (length (lossBytes x)))) (spaced x m)
 
 unfoldable pub answered : (text : List ℕ) → Lent → (j b : ℕ) → Quoted
 answered text lent j b = answerBy (checked text lent) (converted (cellsOf text) (lent .out) j b)
@@ -69,25 +74,40 @@ abbrev pub wordsIn : Quoted → (text : List ℕ) → List ℕ
 wordsIn (Done size losses words) text = lossBytes (cellsOf text)
 wordsIn (Refused r) text = []
 
-pub record Filled (x : List Cell) (rs bs : List ℕ) (m k j b : ℕ) (out plain records words : List ℕ) : Type 0 where
+pub record Filled (x : List Cell) (bs : List ℕ) (m k b : ℕ) (out plain words : List ℕ) : Type 0 where
   pub laid : LaidOut x m k out plain
-  pub listed : records ≡ padded j rs
   pub spelled : words ≡ padded b bs
 
+-- w work bytes and n work numbers are lent
+pub record Called (text : List ℕ) (m k j b w n : ℕ) (r : Quoted) (out plain : List ℕ) (records : List Loss) (words : List ℕ) : Type 0 where
+  pub answer : r ≡ answered text (record { out = m; origins = k; work = w; numbers = n; spans = Without }) j b
+  pub filled : Filled (textOf r text) (wordsIn r text) m k b out plain words
+  pub listed : records ≡ recordsLent j (recordsIn r text)
+
+-- ---- in code
+
+abbrev pub lossesBy : Quoted → ℕ
+lossesBy (Done size losses words) = losses
+lossesBy (Refused r) = 0
+
+-- the losses of an answer are no more than j
+pub record Noted (text : List ℕ) (j : ℕ) (r : Quoted) (numbers : List ℕ) : Type 0 where
+  pub room : 5 * lossesBy r ≤ length numbers
+  pub few : lossesBy r ≤ j
+  pub there : take (5 * lossesBy r) numbers ≡ recordsIn r text
+
 -- what comes back is r: what it has to be is `wanted`
-pub record Answers (text : List ℕ) (m k j b : ℕ) (wanted r : Quoted) (out plain records words : List ℕ) : Type 0 where
+pub record Answers (text : List ℕ) (m k b : ℕ) (wanted r : Quoted) (out plain words : List ℕ) : Type 0 where
   pub answer : r ≡ wanted
-  pub filled : Filled (textOf r text) (recordsIn r text) (wordsIn r text) m k j b out plain records words
+  pub filled : Filled (textOf r text) (wordsIn r text) m k b out plain words
 
-abbrev pub Called : (text : List ℕ) (m k j b w n : ℕ) (r : Quoted) (out plain records words : List ℕ) → Type 0
-Called text m k j b w n r out plain records words =
-    Answers text m k j b (answered text (record { out = m; origins = k; work = w; numbers = n; spans = Without }) j b) r out plain records words
+abbrev pub Numbered : (text : List ℕ) (m k j b w n : ℕ) (r : Quoted) (out plain numbers words : List ℕ) → Type 0
+Numbered text m k j b w n r out plain numbers words =
+    Answers text m k b (answered text (record { out = m; origins = k; work = w; numbers = n; spans = Without }) j b) r out plain words × Noted text j r numbers
 
-pub record Listed (original : List ℕ) (x : List Cell) (records words : List ℕ) (losses bytes : ℕ) : Type 0 where
+pub record Spelled (x : List Cell) (words : List ℕ) (losses bytes : ℕ) : Type 0 where
   pub count : losses ≡ length (quoteLosses x)
   pub size : bytes ≡ length (lossBytes x)
-  pub records-long : length (lossRecords original x) ≡ 5 * losses
-  pub records-there : take (5 * losses) records ≡ lossRecords original x
   pub words-there : take bytes words ≡ lossBytes x
   pub few : losses ≤ length x
 

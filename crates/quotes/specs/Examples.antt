@@ -205,7 +205,7 @@ moved-records : lossRecords moved (cellsOf moved) ≡ 2 ∷ 3 ∷ 0 ∷ 0 ∷ 1 
 unfolding moved asciiComputes blanksCompute cellsCompute linesCompute tagsCompute quotesCompute masksCompute searchComputes lossesCompute recordsOf lossWords partsCompute attributionComputes dayComputes
 moved-records = refl
 
--- ---- answers: an output of m bytes, j record numbers, b loss bytes
+-- ---- answers: an output of m bytes, j records, b loss bytes
 
 abbrev Refuses : (x : List ℕ) (m j b number : ℕ) → Type 0
 Refuses x m j b number = numberOfAnswer (converted (cellsOf x) m j b) ≡ number
@@ -218,19 +218,19 @@ deep-first = refl
 lossy : List ℕ
 lossy = ascii "[quote=rank=1]x"
 
--- then 7, at one record number short; then 8, at one byte short; then 6, at one byte below the need
-records-next : Refuses lossy 0 4 0 7
+-- then 7, at one record short; then 8, at one byte short; then 6, at one byte below the need
+records-next : Refuses lossy 0 0 0 7
 unfolding lossy asciiComputes blanksCompute cellsCompute linesCompute tagsCompute quotesCompute lossesCompute lossWords partsCompute attributionComputes dayComputes callsCompute
 records-next = refl
 
-bytes-next : Refuses lossy 0 5 3 8
+bytes-next : Refuses lossy 0 1 3 8
 unfolding lossy asciiComputes blanksCompute cellsCompute linesCompute tagsCompute quotesCompute lossesCompute lossWords partsCompute attributionComputes dayComputes callsCompute
 bytes-next = refl
 
-space-last : Refuses lossy 6 5 4 6
+space-last : Refuses lossy 6 1 4 6
 unfolding lossy asciiComputes blanksCompute cellsCompute linesCompute tagsCompute quotesCompute lossesCompute lossWords partsCompute attributionComputes dayComputes callsCompute
 space-last = refl
 
-all-fits : countsOfAnswer (converted (cellsOf lossy) 7 5 4) ≡ 7 ∷ 1 ∷ 4 ∷ []
+all-fits : countsOfAnswer (converted (cellsOf lossy) 7 1 4) ≡ 7 ∷ 1 ∷ 4 ∷ []
 unfolding lossy asciiComputes blanksCompute cellsCompute linesCompute tagsCompute quotesCompute lossesCompute lossWords partsCompute attributionComputes dayComputes callsCompute
 all-fits = refl

@@ -4,6 +4,7 @@ use quote_lines::tag::closer_size;
 use quote_lines::tag::opener_size;
 use text::PostAt;
 use text::scan::next_bracket;
+use text::scan::next_byte;
 ghost use Prim.Native.Nat.{_≤_, _<_};
 ghost use lib.ListN.{length};
 ghost use Rattle.quote_lines.specs.Tags.{NextBracket};
@@ -19,7 +20,7 @@ pub struct Depth {
     pub open: usize,
 }
 
-// Behind one token.
+// Behind one token, a text with all up to the next `[`.
 fn depth_behind(s: &[u8], from: Depth) -> Depth
     requires { ⌜ (from .at .0 < length (now s)) × (NextBracket (now s) (from .at .0) (from .bracket .0) × (from .«open» ≤ 64)) ⌝ }
     ensures { λ r. ⌜ ((from .at .0 < r .at .0) × (r .at .0 ≤ length (now (s .entry)))) × ((NextBracket (now (s .entry)) (r .at .0) (r .bracket .0) × (r .«open» ≤ 65)) × DepthBehind (now (s .entry)) (from .at .0) (from .«open») (r .at .0) (r .«open»)) ⌝ }
@@ -52,8 +53,9 @@ fn depth_behind(s: &[u8], from: Depth) -> Depth
             open: open - 1,
         };
     }
+    let next = next_byte(s, PostAt(i + 1), b'[');
     Depth {
-        at: PostAt(i + 1),
+        at: next,
         bracket,
         open,
     }

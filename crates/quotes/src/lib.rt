@@ -2,6 +2,8 @@
 use attribution_losses::loss::Counts;
 use deep::is_too_deep;
 use loss::list_losses;
+use losses::Loss;
+use losses::fill;
 use quote_lines::search::read_lines;
 use quote_steps::pass::quote_pass;
 use text::PostAt;
@@ -16,19 +18,18 @@ use text::source::set_source;
 use text::write::lay_nothing;
 use text::write::lay_part;
 use text::zero::zero8;
-use text::zero::zero32;
 ghost use mathlib.Core.Path.{_≡_};
 ghost use mathlib.Core.Bool.{false};
 ghost use mathlib.Core.List.{[]};
 ghost use Prim.Native.Nat.{_+_, _-_, _*_, _≤_};
-ghost use lib.ListN.{length};
+ghost use lib.ListN.{length, take};
 ghost use Rattle.text.specs.Cells.{cells, cellsOf, part};
 ghost use Rattle.text.specs.Writes.{cleared, LaidOut};
 ghost use Rattle.quote_lines.specs.Masks.{visible};
 ghost use Rattle.quote_lines.specs.Lines.{tags};
 ghost use Rattle.quote_blocks.specs.Quotes.{tooDeep};
 ghost use Rattle.quotes.specs.Losses.{ListsLosses};
-ghost use Rattle.quotes.specs.Calls.{limited, spaced, converted, Filled, Answers, Called, Listed};
+ghost use Rattle.quotes.specs.Calls.{limited, spaced, converted, lossesBy, Filled, Called, Noted, Answers, Numbered, Spelled};
 ghost use Rattle.quotes.specs.declared.Quoted.the-variants.{Done, Refused};
 
 pub mod deep;
@@ -40,36 +41,29 @@ pub enum Quoted {
     Refused(Refusal),
 }
 
-// A refusal: all that is lent for the result is zero.
-fn refuse(
-    r: Refusal,
-    out: &mut [u8],
-    origins: &mut [u32],
-    records: &mut [u32],
-    loss_bytes: &mut [u8],
-) -> Quoted
-    ensures { λ l. ⌜ (l ≡ Refused r) × Filled [] [] [] (length (now (out .entry))) (length (now (origins .entry))) (length (now (records .entry))) (length (now («loss_bytes» .entry))) (now (out .exit)) (now (origins .exit)) (now (records .exit)) (now («loss_bytes» .exit)) ⌝ }
+// A refusal: output, origins and loss bytes are zero.
+fn refuse(r: Refusal, out: &mut [u8], origins: &mut [u32], loss_bytes: &mut [u8]) -> Quoted
+    ensures { λ l. ⌜ (l ≡ Refused r) × Filled [] [] (length (now (out .entry))) (length (now (origins .entry))) (length (now («loss_bytes» .entry))) (now (out .exit)) (now (origins .exit)) (now («loss_bytes» .exit)) ⌝ }
 {
     lay_nothing(out, origins);
-    zero32(records, TextAt(0));
     zero8(loss_bytes, TextAt(0));
     Quoted::Refused(r)
 }
 
-// Lists the losses of a text, with the lines of its own quotes.
+// Lists the losses of a text, with the lines of its own quotes: the numbers of their records before `base`.
 fn list_own(
     text: &[u8],
     work: &mut [u8],
     numbers: &mut [u32],
-    records: &mut [u32],
+    base: usize,
     loss_bytes: &mut [u8],
 ) -> Counts
-    requires { ⌜ (length (now text) ≤ 262144) × ((length (now text) ≤ length (now work)) × (length (now text) ≤ length (now numbers))) ⌝ }
-    ensures { λ r. ⌜ ListsLosses (now (text .entry)) (tags 1 0 (visible (now (text .entry)))) (now (records .entry)) (now («loss_bytes» .entry)) (now (records .exit)) (now («loss_bytes» .exit)) (r .losses) (r .bytes) ⌝ }
+    requires { ⌜ (length (now text) ≤ 262144) × ((length (now text) ≤ length (now work)) × (base + length (now text) ≤ length (now numbers))) ⌝ }
+    ensures { λ r. ⌜ ListsLosses (now (text .entry)) (tags 1 0 (visible (now (text .entry)))) (take base (now (numbers .entry))) (now («loss_bytes» .entry)) (take base (now (numbers .exit))) (now («loss_bytes» .exit)) (r .losses) (r .bytes) ⌝ }
 {
-    let own = read_lines(text, work, numbers);
+    let own = read_lines(text, work, &mut numbers[base..]);
     let size = own.size;
-    list_losses(text, &work[..size], numbers, own.count, records, loss_bytes)
+    list_losses(text, &work[..size], numbers, base, own.count, loss_bytes)
 }
 
 // The first of the refusals 5, 7, 8 that applies: the text is too deep, its losses are more than the records, or longer than the bytes.
@@ -88,7 +82,7 @@ pub fn refusal_of(deep: bool, many: bool, long: bool) -> Checked
     Checked::Fine
 }
 
-// Lays out the cells from a place up to another, and clears what is behind the losses.
+// Lays out the cells from a place up to another, and clears what is behind the loss bytes.
 fn lay_result(
     work: &[u8],
     numbers: &[u32],
@@ -97,18 +91,16 @@ fn lay_result(
     losses: Counts,
     out: &mut [u8],
     origins: &mut [u32],
-    records: &mut [u32],
     loss_bytes: &mut [u8],
 ) -> Quoted
-    requires { ⌜ (((from .0 ≤ to .0) × ((to .0 ≤ length (now work)) × (to .0 ≤ length (now numbers)))) × ((to .0 ≤ from .0 + length (now out)) × (to .0 ≤ from .0 + length (now origins)))) × (losses .losses ≤ 262144) ⌝ }
-    ensures { λ l. ⌜ (l ≡ Done (to .0 - from .0) (losses .losses) (losses .bytes)) × (LaidOut (part (from .0) (to .0) (cells (now (work .entry)) (now (numbers .entry)))) (length (now (out .entry))) (length (now (origins .entry))) (now (out .exit)) (now (origins .exit)) × ((now (records .exit) ≡ cleared (5 * losses .losses) (now (records .entry))) × (now («loss_bytes» .exit) ≡ cleared (losses .bytes) (now («loss_bytes» .entry))))) ⌝ }
+    requires { ⌜ ((from .0 ≤ to .0) × ((to .0 ≤ length (now work)) × (to .0 ≤ length (now numbers)))) × ((to .0 ≤ from .0 + length (now out)) × (to .0 ≤ from .0 + length (now origins))) ⌝ }
+    ensures { λ l. ⌜ (l ≡ Done (to .0 - from .0) (losses .losses) (losses .bytes)) × (LaidOut (part (from .0) (to .0) (cells (now (work .entry)) (now (numbers .entry)))) (length (now (out .entry))) (length (now (origins .entry))) (now (out .exit)) (now (origins .exit)) × (now («loss_bytes» .exit) ≡ cleared (losses .bytes) (now («loss_bytes» .entry)))) ⌝ }
 {
     let a = from.0;
     let e = to.0;
     let count = losses.losses;
     let bytes = losses.bytes;
     lay_part(work, numbers, from, to, out, origins);
-    zero32(records, TextAt(5 * count));
     zero8(loss_bytes, TextAt(bytes));
     Quoted::Done(e - a, count, bytes)
 }
@@ -121,11 +113,10 @@ fn write_quotes(
     numbers: &mut [u32],
     out: &mut [u8],
     origins: &mut [u32],
-    records: &mut [u32],
     loss_bytes: &mut [u8],
 ) -> Quoted
-    requires { ⌜ ((length (now text) ≤ 262144) × ((length (now out) ≤ 16777216) × (length (now out) ≤ length (now origins)))) × (((length (now text) + 3 * length (now out) ≤ length (now work)) × (8 * length (now text) + 3 * length (now out) + 64 ≤ length (now numbers))) × ((tooDeep (cellsOf (now text)) ≡ false) × Listed (now text) (cellsOf (now text)) (now records) (now «loss_bytes») (losses .losses) (losses .bytes))) ⌝ }
-    ensures { λ r. ⌜ Answers (now (text .entry)) (length (now (out .entry))) (length (now (origins .entry))) (length (now (records .entry))) (length (now («loss_bytes» .entry))) (spaced (cellsOf (now (text .entry))) (length (now (out .entry)))) r (now (out .exit)) (now (origins .exit)) (now (records .exit)) (now («loss_bytes» .exit)) ⌝ }
+    requires { ⌜ ((length (now text) ≤ 262144) × ((length (now out) ≤ 16777216) × (length (now out) ≤ length (now origins)))) × (((length (now text) + 3 * length (now out) ≤ length (now work)) × (length (now text) + 3 * length (now out) ≤ length (now numbers))) × ((tooDeep (cellsOf (now text)) ≡ false) × Spelled (cellsOf (now text)) (now «loss_bytes») (losses .losses) (losses .bytes))) ⌝ }
+    ensures { λ r. ⌜ Answers (now (text .entry)) (length (now (out .entry))) (length (now (origins .entry))) (length (now («loss_bytes» .entry))) (spaced (cellsOf (now (text .entry))) (length (now (out .entry)))) r (now (out .exit)) (now (origins .exit)) (now («loss_bytes» .exit)) ⌝ }
 {
     let n = text.len();
     let end = n + out.len();
@@ -134,7 +125,7 @@ fn write_quotes(
     let r = quote_pass(work, numbers, n, n, end, out, origins);
     let to = r.0;
     if end < to {
-        return refuse(Refusal::NoSpace, out, origins, records, loss_bytes);
+        return refuse(Refusal::NoSpace, out, origins, loss_bytes);
     }
     lay_result(
         work,
@@ -144,47 +135,55 @@ fn write_quotes(
         losses,
         out,
         origins,
-        records,
         loss_bytes,
     )
 }
 
-// Converts a text that is right, in memory that is large enough.
+// Converts a text that is right, in memory that is large enough. A text has no more losses than bytes, so five numbers for each byte hold the
+// numbers of their records; the pass has the work numbers behind them.
 fn convert(
     text: &[u8],
+    lent: usize,
     work: &mut [u8],
     numbers: &mut [u32],
     out: &mut [u8],
     origins: &mut [u32],
-    records: &mut [u32],
     loss_bytes: &mut [u8],
 ) -> Quoted
     requires { ⌜ ((length (now text) ≤ 262144) × ((length (now out) ≤ 16777216) × (length (now out) ≤ length (now origins)))) × ((length (now text) + 3 * length (now out) ≤ length (now work)) × (8 * length (now text) + 3 * length (now out) + 64 ≤ length (now numbers))) ⌝ }
-    ensures { λ r. ⌜ Answers (now (text .entry)) (length (now (out .entry))) (length (now (origins .entry))) (length (now (records .entry))) (length (now («loss_bytes» .entry))) (converted (cellsOf (now (text .entry))) (length (now (out .entry))) (length (now (records .entry))) (length (now («loss_bytes» .entry)))) r (now (out .exit)) (now (origins .exit)) (now (records .exit)) (now («loss_bytes» .exit)) ⌝ }
+    ensures { λ r. ⌜ Answers (now (text .entry)) (length (now (out .entry))) (length (now (origins .entry))) (length (now («loss_bytes» .entry))) (converted (cellsOf (now (text .entry))) (length (now (out .entry))) lent (length (now («loss_bytes» .entry)))) r (now (out .exit)) (now (origins .exit)) (now («loss_bytes» .exit)) × Noted (now (text .entry)) lent r (now (numbers .exit)) ⌝ }
 {
+    let base = 5 * text.len();
     let deep = is_too_deep(text);
-    let c = list_own(text, work, numbers, records, loss_bytes);
-    // a record takes five numbers
-    let many = records.len() / 5 < c.losses;
+    let c = list_own(text, work, numbers, base, loss_bytes);
+    let many = lent < c.losses;
     let long = loss_bytes.len() < c.bytes;
     let refused = refusal_of(deep, many, long);
     match refused {
-        Checked::Refused(r) => refuse(r, out, origins, records, loss_bytes),
-        Checked::Fine => write_quotes(text, c, work, numbers, out, origins, records, loss_bytes),
+        Checked::Refused(r) => refuse(r, out, origins, loss_bytes),
+        Checked::Fine => write_quotes(
+            text,
+            c,
+            work,
+            &mut numbers[base..],
+            out,
+            origins,
+            loss_bytes,
+        ),
     }
 }
 
-// Quotes of a text: document 01's refusals 1 to 4, then 5, 7, 8, 6.
-pub fn convert_quotes(
+// Quotes of a text, where `lent` records are lent: document 01's refusals 1 to 4, then 5, 7, 8, 6. The losses are listed as plain numbers.
+fn convert_listed(
     text: &[u8],
     out: &mut [u8],
     origins: &mut [u32],
-    records: &mut [u32],
+    lent: usize,
     loss_bytes: &mut [u8],
     work: &mut [u8],
     numbers: &mut [u32],
 ) -> Quoted
-    ensures { λ r. ⌜ Called (now (text .entry)) (length (now (out .entry))) (length (now (origins .entry))) (length (now (records .entry))) (length (now («loss_bytes» .entry))) (length (now (work .entry))) (length (now (numbers .entry))) r (now (out .exit)) (now (origins .exit)) (now (records .exit)) (now («loss_bytes» .exit)) ⌝ }
+    ensures { λ r. ⌜ Numbered (now (text .entry)) (length (now (out .entry))) (length (now (origins .entry))) lent (length (now («loss_bytes» .entry))) (length (now (work .entry))) (length (now (numbers .entry))) r (now (out .exit)) (now (origins .exit)) (now (numbers .exit)) (now («loss_bytes» .exit)) ⌝ }
 {
     let checked = check(
         text,
@@ -197,7 +196,36 @@ pub fn convert_quotes(
         },
     );
     match checked {
-        Checked::Refused(r) => refuse(r, out, origins, records, loss_bytes),
-        Checked::Fine => convert(text, work, numbers, out, origins, records, loss_bytes),
+        Checked::Refused(r) => refuse(r, out, origins, loss_bytes),
+        Checked::Fine => convert(text, lent, work, numbers, out, origins, loss_bytes),
     }
+}
+
+// How many losses an answer comes with.
+fn losses_by(answer: Quoted) -> usize
+    ensures { λ r. ⌜ r ≡ lossesBy answer ⌝ }
+{
+    match answer {
+        Quoted::Done(_, losses, _) => losses,
+        Quoted::Refused(_) => 0,
+    }
+}
+
+// Quotes of a text: document 01's refusals 1 to 4, then 5, 7, 8, 6.
+pub fn convert_quotes(
+    text: &[u8],
+    out: &mut [u8],
+    origins: &mut [u32],
+    records: &mut [Loss],
+    loss_bytes: &mut [u8],
+    work: &mut [u8],
+    numbers: &mut [u32],
+) -> Quoted
+    ensures { λ r. ⌜ Called (now (text .entry)) (length (now (out .entry))) (length (now (origins .entry))) (length (now (records .entry))) (length (now («loss_bytes» .entry))) (length (now (work .entry))) (length (now (numbers .entry))) r (now (out .exit)) (now (origins .exit)) (now (records .exit)) (now («loss_bytes» .exit)) ⌝ }
+{
+    let lent = records.len();
+    let answer = convert_listed(text, out, origins, lent, loss_bytes, work, numbers);
+    let count = losses_by(answer);
+    fill(records, numbers, count);
+    answer
 }

@@ -1,5 +1,6 @@
 // The losses of a text's quotes in the order of their openers, each with its line in the original text. They are listed in lent slices; what
-// does not fit is counted, so refusals 7 and 8 are decided by the counts.
+// does not fit is counted, so refusals 7 and 8 are decided by the counts. The numbers of their records stand before a place `base` of the work
+// numbers, and the tags of the original text from there on.
 use attribution_losses::loss::Counts;
 use attribution_losses::loss::put_losses;
 use quote_lines::search::attribution_size;
@@ -7,8 +8,9 @@ use quote_lines::search::line_of;
 use quote_lines::tag::tag_at;
 use text::PostAt;
 use text::scan::next_bracket;
+ghost use mathlib.Core.Path.{_≡_};
 ghost use Prim.Native.Nat.{_≤_, _<_};
-ghost use lib.ListN.{length};
+ghost use lib.ListN.{length, take, drop};
 ghost use Rattle.quote_lines.specs.Tags.{NextBracket};
 ghost use Rattle.quote_lines.specs.Lines.{tags};
 ghost use Rattle.quote_lines.specs.Tables.{Table};
@@ -25,18 +27,18 @@ pub struct Listing {
     pub bytes: usize,
 }
 
-// Lists the losses of the token at a place; `post` is the masked original text, and `table` holds its tags.
+// Lists the losses of the token at a place; `post` is the masked original text.
 fn list_token(
     source: &[u8],
     post: &[u8],
-    table: &[u32],
+    numbers: &mut [u32],
+    base: usize,
     count: usize,
     from: Listing,
-    records: &mut [u32],
     loss_bytes: &mut [u8],
 ) -> Listing
-    requires { ⌜ ((from .at .0 < length (now source)) × (length (now source) ≤ 16777216)) × ((NextBracket (now source) (from .at .0) (from .bracket .0) × FewAt (from .at .0) (from .quote) (from .losses) (from .bytes)) × Table (now post) (now table) 0 count) ⌝ }
-    ensures { λ r. ⌜ (((from .at .0 < r .at .0) × (r .at .0 ≤ length (now (source .entry)))) × (NextBracket (now (source .entry)) (r .at .0) (r .bracket .0) × FewAt (r .at .0) (r .quote) (r .losses) (r .bytes))) × ListsToken (now (source .entry)) (tags 1 0 (now (post .entry))) (now (records .entry)) (now («loss_bytes» .entry)) (from .at .0) (from .quote) (from .next) (from .losses) (from .bytes) (now (records .exit)) (now («loss_bytes» .exit)) (r .at .0) (r .quote) (r .next) (r .losses) (r .bytes) ⌝ }
+    requires { ⌜ ((from .at .0 < length (now source)) × (length (now source) ≤ 16777216)) × ((NextBracket (now source) (from .at .0) (from .bracket .0) × FewAt (from .at .0) (from .quote) (from .losses) (from .bytes)) × (Table (now post) (drop base (now numbers)) 0 count × (base ≤ length (now numbers)))) ⌝ }
+    ensures { λ r. ⌜ ((((from .at .0 < r .at .0) × (r .at .0 ≤ length (now (source .entry)))) × (NextBracket (now (source .entry)) (r .at .0) (r .bracket .0) × FewAt (r .at .0) (r .quote) (r .losses) (r .bytes))) × ListsToken (now (source .entry)) (tags 1 0 (now (post .entry))) (take base (now (numbers .entry))) (now («loss_bytes» .entry)) (from .at .0) (from .quote) (from .next) (from .losses) (from .bytes) (take base (now (numbers .exit))) (now («loss_bytes» .exit)) (r .at .0) (r .quote) (r .next) (r .losses) (r .bytes)) × (drop base (now (numbers .exit)) ≡ drop base (now (numbers .entry))) ⌝ }
 {
     let at = from.at;
     let known = from.bracket;
@@ -51,12 +53,12 @@ fn list_token(
     if k != 0 {
         let a = i + 7;
         let e = a + attribution_size(k);
-        let found = line_of(post, table, 0, count, next, &source[a..e]);
+        let found = line_of(post, &numbers[base..], 0, count, next, &source[a..e]);
         let c = put_losses(
             &source[a..e],
             quote as u32,
             found.line,
-            records,
+            &mut numbers[..base],
             losses,
             loss_bytes,
             bytes,
@@ -95,13 +97,13 @@ fn list_token(
 pub fn list_losses(
     source: &[u8],
     post: &[u8],
-    table: &[u32],
+    numbers: &mut [u32],
+    base: usize,
     count: usize,
-    records: &mut [u32],
     loss_bytes: &mut [u8],
 ) -> Counts
-    requires { ⌜ (length (now source) ≤ 16777216) × Table (now post) (now table) 0 count ⌝ }
-    ensures { λ r. ⌜ ListsLosses (now (source .entry)) (tags 1 0 (now (post .entry))) (now (records .entry)) (now («loss_bytes» .entry)) (now (records .exit)) (now («loss_bytes» .exit)) (r .losses) (r .bytes) ⌝ }
+    requires { ⌜ (length (now source) ≤ 16777216) × (Table (now post) (drop base (now numbers)) 0 count × (base ≤ length (now numbers))) ⌝ }
+    ensures { λ r. ⌜ ListsLosses (now (source .entry)) (tags 1 0 (now (post .entry))) (take base (now (numbers .entry))) (now («loss_bytes» .entry)) (take base (now (numbers .exit))) (now («loss_bytes» .exit)) (r .losses) (r .bytes) ⌝ }
 {
     let mut st = Listing {
         at: PostAt(0),
@@ -113,7 +115,7 @@ pub fn list_losses(
     };
     let mut i: usize = 0;
     while i < source.len() {
-        st = list_token(source, post, table, count, st, records, loss_bytes);
+        st = list_token(source, post, numbers, base, count, st, loss_bytes);
         let at = st.at;
         i = at.0;
     }

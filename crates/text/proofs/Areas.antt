@@ -1,13 +1,16 @@
 -- Laws of appending in an area of a longer pair of slices. Assumes nothing.
 use mathlib.Core.Path.{_≡_, refl, sym, ap, _∙_}
-use Prim.Native.Nat.{ℕ, suc, _+_, _≤_, _<_, min}
+use Prim.Native.Nat.{ℕ, zero, suc, _+_, _-_, _≤_, _<_, min}
 use native.Mathlib.Omega.{arith}
+use mathlib.Core.Bool.{true}
 use mathlib.Core.List.{List, [], _∷_, _++_}
-use lib.ListN.{length, take, drop, getD, set, length-take}
-use lib.Seq.{take-set-lt, drop-set-lt, getD-take, length-take-le}
+use lib.ListN.{length, take, drop, getD, set, length-take, length-drop}
+use lib.Dec.{ltb}
+use borrow.Author.Tests.{ltb-true}
+use lib.Seq.{take-set-lt, drop-set-lt, getD-take, length-take-le, take-all}
 use Rattle.text.specs.Cells.{Cell, cell, cells, part}
 use Rattle.text.specs.Writes.{Appends, AppendsIn}
-use Rattle.text.proofs.Writing.{cells-set, cells-le, cells-at, part-snoc, appends-none, appends-then, appends-set, appends-full}
+use Rattle.text.proofs.Writing.{cells-set, cells-le, cells-at, part-snoc, appends-none, appends-then, appends-set, appends-over, cells-short, cells-short₂}
 
 pub appendsIn-none : (bs ns : List ℕ) (end at : ℕ) → AppendsIn bs ns end at bs ns at []
 appendsIn-none bs ns end at = record { appends = appends-none (take end (cells bs ns)) at; bytes-behind = refl; numbers-behind = refl }
@@ -19,6 +22,17 @@ appendsIn-then p q = record {
   bytes-behind = q .bytes-behind ∙ p .bytes-behind;
   numbers-behind = q .numbers-behind ∙ p .numbers-behind;
 }
+
+-- ---- room
+
+pub monus-none : (a b : ℕ) → a ≤ b → a - b ≡ 0
+monus-none a b h = omega arith
+
+whole : (bs ns : List ℕ) (end : ℕ) → end ≡ min (length bs) (length ns) → take end (cells bs ns) ≡ cells bs ns
+whole bs ns end e =
+    let a = cells-short bs ns in
+    let b = cells-short₂ bs ns in
+    take-all end (cells bs ns) (omega arith)
 
 module _ (bs ns : List ℕ) (end : ℕ) (hb : end ≤ length bs) (hn : end ≤ length ns) where
   pub area-length : length (take end (cells bs ns)) ≡ end
@@ -34,11 +48,16 @@ module _ (bs ns : List ℕ) (end : ℕ) (hb : end ≤ length bs) (hn : end ≤ l
         numbers-behind = drop-set-lt end ns i x h;
       }
 
-  -- past the end nothing fits
-  pub appendsIn-full : (i b x r : ℕ) → end ≤ i → end < r → i ≤ r → AppendsIn bs ns end i bs ns r (cell b x ∷ [])
-  appendsIn-full i b x r h far up =
+  -- more cells than fit
+  pub appendsIn-over : (i r : ℕ) (t : List Cell) → end < i + length t → end < r → i ≤ r → AppendsIn bs ns end i bs ns r t
+  appendsIn-over i r t h far up =
       let l = area-length in
-      record { appends = appends-full (take end (cells bs ns)) i (cell b x) r (omega arith) (omega arith) up; bytes-behind = refl; numbers-behind = refl }
+      record { appends = appends-over (take end (cells bs ns)) i t r (omega arith) (omega arith) up; bytes-behind = refl; numbers-behind = refl }
+
+  -- the whole of a pair of slices is an area
+  pub area-whole : {bs' ns' : List ℕ} {at r : ℕ} {t : List Cell} → end ≡ min (length bs) (length ns) → length bs' ≡ length bs → length ns' ≡ length ns
+      → AppendsIn bs ns end at bs' ns' r t → Appends (cells bs ns) at (cells bs' ns') r t
+  area-whole {bs'} {ns'} e b n p = rw (← whole bs ns end e, ← whole bs' ns' end (omega arith)) (p .appends)
 
 -- ---- a turn of a loop that copies
 
@@ -60,3 +79,16 @@ within-turn {bs₂} {ns₂} {to} {r} bs ns bs₀ ns₀ a i end at p q h k lt hb 
     ∙ ap (λ (l : List Cell). getD l i d) (sym (p .appends .keeps))
     ∙ getD-take at (take end (cells bs ns)) i d k ∙ getD-take end (cells bs ns) i d lt ∙ cells-at bs ns i d (omega arith) (omega arith) in
     rw (part-snoc bs₀ ns₀ a i (omega arith) (omega arith) h, same) (appendsIn-then p q)
+
+-- ---- a part that does not fit
+
+pub part-size : (bs ns : List ℕ) (a e : ℕ) → a ≤ e → e ≤ length bs → e ≤ length ns → length (part a e (cells bs ns)) ≡ e - a
+unfolding part
+part-size bs ns a e h b n = rw (length-drop a (take e (cells bs ns)), length-take-le e (cells bs ns) (cells-le bs ns e b n))
+
+pub part-over : {bs ns : List ℕ} {end : ℕ} (src from : List ℕ) (a e at : ℕ) → end ≤ length bs → end ≤ length ns → a ≤ e → e ≤ length src → e ≤ length from
+    → ltb (end - at) (e - a) ≡ true → end < 18446744073709551615 → at ≤ 18446744073709551615 → AppendsIn bs ns end at bs ns 18446744073709551615 (part a e (cells src from))
+part-over {bs} {ns} {end} src from a e at b n h s f over far up =
+    let l = ltb-true (end - at) (e - a) over in
+    let z = part-size src from a e h s f in
+    appendsIn-over bs ns end b n at 18446744073709551615 (part a e (cells src from)) (omega (arith, l, z)) far up

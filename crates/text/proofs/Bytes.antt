@@ -1,15 +1,15 @@
 -- Laws of reading bytes: ranges, words, and the loops that look for a byte. Assumes nothing.
-use mathlib.Core.Path.{_≡_, refl, sym, ap, _∙_}
+use mathlib.Core.Path.{_≡_, refl, sym, ap, subst, _∙_}
 use Prim.Native.Nat.{ℕ, zero, suc, _+_, _-_, _≤_, _<_}
 use native.Mathlib.Nat.{le-of-suc-le-suc, not-suc-le-zero}
 use native.Mathlib.Numerals.{add-one}
 use native.Mathlib.Omega.{arith}
-use mathlib.Core.Bool.{Bool, true, false, cond, _&&_}
+use mathlib.Core.Bool.{Bool, true, false, cond, _&&_, _||_}
 use mathlib.Core.List.{List, [], _∷_}
-use lib.ListN.{length, drop, getD, drop-of-length-le}
-use lib.Seq.{drop-cons}
-use lib.Dec.{eqb, leb}
-use borrow.Author.Tests.{leb-true, eq-eqb, ne-eqb}
+use lib.ListN.{length, drop, getD, drop-of-length-le, length-drop}
+use lib.Seq.{drop-cons, drop-drop, getD-drop}
+use lib.Dec.{eqb, leb, ltb}
+use borrow.Author.Tests.{leb-true, eq-eqb, ne-eqb, lt-ltb, le-ltb, ltb-true, ltb-false}
 use Rattle.text.specs.Ascii.{inside, small, begins, toFirst}
 
 -- ---- ranges
@@ -91,3 +91,64 @@ first-stops p (b ∷ s) h = by (p b) refl h (first-stops p s)
         → p (getD (b ∷ s) (cond t 0 (suc (toFirst p s))) 0) ≡ true
     by true e lt k = e
     by false e lt k = k (le-of-suc-le-suc lt)
+
+pub ltb-suc : (a b : ℕ) → ltb (suc a) (suc b) ≡ ltb a b
+ltb-suc a b = by (ltb a b) refl
+  where
+    by : (t : Bool) → ltb a b ≡ t → ltb (suc a) (suc b) ≡ t
+    by true e = let l = ltb-true a b e in lt-ltb (suc a) (suc b) (omega arith)
+    by false e = let l = ltb-false a b e in le-ltb (suc a) (suc b) (omega arith)
+
+-- it has ended before one byte more
+pub first-before : (p : ℕ → Bool) (s : List ℕ) (k : ℕ) → k < length s → ltb (toFirst p s) (suc k) ≡ (ltb (toFirst p s) k || p (getD s k 0))
+unfolding toFirst
+first-before p [] k h = absurd (not-suc-le-zero h)
+first-before p (b ∷ s) zero h = by (p b) (toFirst p s)
+  where
+    by : (t : Bool) (f : ℕ) → ltb (cond t 0 (suc f)) 1 ≡ (ltb (cond t 0 (suc f)) 0 || t)
+    by true f = refl
+    by false f = rw (le-ltb (suc f) 1 (omega arith), le-ltb (suc f) 0 (omega arith))
+first-before p (b ∷ s) (suc k) h = by (p b) (toFirst p s) (p (getD s k 0)) (first-before p s k (le-of-suc-le-suc h))
+  where
+    by : (t : Bool) (f : ℕ) (q : Bool) → ltb f (suc k) ≡ (ltb f k || q) → ltb (cond t 0 (suc f)) (suc (suc k)) ≡ (ltb (cond t 0 (suc f)) (suc k) || q)
+    by true f q e = rw (lt-ltb 0 (suc (suc k)) (omega arith), lt-ltb 0 (suc k) (omega arith))
+    by false f q e = rw (ltb-suc f (suc k), ltb-suc f k) e
+
+pub stands-none : (p : ℕ → Bool) (s : List ℕ) (i : ℕ) → false ≡ ltb (toFirst p (drop i s)) 0
+stands-none p s i = sym (le-ltb (toFirst p (drop i s)) 0 (omega arith))
+
+-- one byte more has been looked at
+pub stands-turn : (p : ℕ → Bool) (s : List ℕ) (i k : ℕ) (stands : Bool) → i + k < length s → stands ≡ ltb (toFirst p (drop i s)) k
+    → (stands || p (getD s (i + k) 0)) ≡ ltb (toFirst p (drop i s)) (k + 1)
+stands-turn p s i k stands h e =
+    let d : getD (drop i s) k 0 ≡ getD s (i + k) 0 = getD-drop i s k 0 in
+    let n : k < length (drop i s) = rw (length-drop i s) (omega arith) in
+    rw (e, sym d, add-one) (sym (first-before p (drop i s) k n))
+
+pub first-past : (p : ℕ → Bool) (s : List ℕ) (n : ℕ) → n ≤ toFirst p s → n + toFirst p (drop n s) ≡ toFirst p s
+unfolding toFirst
+first-past p s zero h = omega arith
+first-past p [] (suc n) h = absurd (not-suc-le-zero h)
+first-past p (b ∷ s) (suc n) h = by (p b) h (first-past p s n)
+  where
+    by : (t : Bool) → suc n ≤ cond t 0 (suc (toFirst p s)) → (n ≤ toFirst p s → n + toFirst p (drop n s) ≡ toFirst p s) → suc n + toFirst p (drop n s) ≡ cond t 0 (suc (toFirst p s))
+    by true g k = absurd (not-suc-le-zero g)
+    by false g k = let e = k (le-of-suc-le-suc g) in omega (arith, e)
+
+-- n bytes further
+pub look-past : (p : ℕ → Bool) (s : List ℕ) (at i n : ℕ) → Looks p s at i → i + n ≤ length s → n ≤ toFirst p (drop i s) → Looks p s at (i + n)
+look-past p s at i n l le h =
+    let e = first-past p (drop i s) n h in
+    let d : toFirst p (drop n (drop i s)) ≡ toFirst p (drop (i + n) s) = ap (toFirst p) (drop-drop n i s) in
+    record { inside = le; ends = omega (arith, e, d, l .ends) }
+
+-- what stands before it ends
+pub first-plain : (p : ℕ → Bool) (s : List ℕ) (i : ℕ) → i < length s → 1 ≤ toFirst p (drop i s) → p (getD s i 0) ≡ false
+unfolding toFirst
+first-plain p s i lt h = by (p (getD s i 0)) refl
+  where
+    by : (t : Bool) → p (getD s i 0) ≡ t → p (getD s i 0) ≡ false
+    by false e = e
+    by true e =
+        let z : toFirst p (drop i s) ≡ 0 = rw (drop-cons s i 0 lt, e) in
+        absurd (not-suc-le-zero (subst (λ (n : ℕ). 1 ≤ n) z h))

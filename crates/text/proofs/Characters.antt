@@ -2,15 +2,17 @@
 use mathlib.Core.Path.{_≡_, refl, sym, ap, _∙_}
 use mathlib.Core.Bool.{Bool, true, false, cond, _||_}
 use Prim.Native.Nat.{ℕ, zero, suc, _+_, _-_, _*_, _/_, _%_, _≤_, _<_}
-use lib.Dec.{eqb, ltb}
-use borrow.Author.Tests.{lt-ltb, le-ltb, eq-eqb, ne-eqb, ltb-true, ltb-false}
+use lib.Dec.{eqb, leb, ltb}
+use borrow.Author.Tests.{lt-ltb, le-ltb, le-leb, eq-eqb, ne-eqb, ltb-true, ltb-false, leb-false}
 use native.Mathlib.Nat.{add-zero}
 use native.Mathlib.Numerals.{add-one}
 use native.Mathlib.Omega.{arith}
 use mathlib.Core.List.{List, [], _∷_}
 use lib.ListN.{length, drop, getD, drop-of-length-le}
 use lib.Seq.{getD-drop, drop-cons, drop-drop}
-use Rattle.text.specs.Utf8.{size, charSize, utf8After, utf8}
+use Rattle.text.specs.Ascii.{inside, toFirst}
+use Rattle.text.proofs.Bytes.{first-past, first-plain}
+use Rattle.text.specs.Utf8.{utf8-1, size, charSize, utf8After, utf8}
 use Rattle.text.specs.Blanks.{blank1, blank2, blank3, blankWidth, blankSize}
 
 -- ---- characters by place
@@ -54,3 +56,36 @@ unfolding utf8
 utf8-turn s i n h e z =
     let q : suc i + (n - 1) ≡ i + n = omega arith in
     rw (drop-cons s i 0 h, utf8-cons, ← drop-cons s i 0 h, ← e, ne-eqb n 0 z, utf8-skip, drop-drop (n - 1) (suc i) s, q)
+
+-- ---- ASCII
+
+ascii-size : (a b c d : ℕ) → a < 128 → size a b c d ≡ 1
+unfolding size inside utf8-1
+ascii-size a b c d h = rw (le-leb 0 a (omega arith), le-leb a 127 (omega arith))
+
+-- n ASCII bytes are n characters
+pub utf8-ascii : (s : List ℕ) (n i : ℕ) → i + n ≤ length s → n ≤ toFirst (leb 128) (drop i s) → utf8 (drop i s) ≡ utf8 (drop (i + n) s)
+utf8-ascii s zero i le h = rw (add-zero i)
+utf8-ascii s (suc n) i le h =
+    let lt : i < length s = omega arith in
+    let f : toFirst (leb 128) (drop i s) ≡ 1 + toFirst (leb 128) (drop (i + 1) s) =
+    sym (first-past (leb 128) (drop i s) 1 (omega arith)) ∙ ap (λ (l : List ℕ). 1 + toFirst (leb 128) l) (drop-drop 1 i s) in
+    let a : getD s i 0 < 128 = leb-false 128 (getD s i 0) (first-plain (leb 128) s i lt (omega arith)) in
+    let one : 1 ≡ charSize (drop i s) = sym (char-at s i ∙ ascii-size (getD s i 0) (getD s (i + 1) 0) (getD s (i + 2) 0) (getD s (i + 3) 0) a) in
+    let e : i + 1 + n ≡ i + suc n = omega arith in
+    utf8-turn s i 1 lt one (λ z. omega (arith, z)) ∙ utf8-ascii s n (i + 1) (omega arith) (omega (arith, f)) ∙ ap (λ (k : ℕ). utf8 (drop k s)) e
+
+ascii-width : (a b c : ℕ) → a < 128 → blankWidth a b c ≡ cond (blank1 a) 1 0
+unfolding blankWidth blank2 blank3
+ascii-width a b c h =
+    rw (ne-eqb a 0xC2 (λ (p : a ≡ 0xC2). omega arith), ne-eqb a 0xE1 (λ (p : a ≡ 0xE1). omega arith), ne-eqb a 0xE2 (λ (p : a ≡ 0xE2). omega arith), ne-eqb a 0xE3 (λ (p : a ≡ 0xE3). omega arith))
+
+pub ascii-blank : (s : List ℕ) (i : ℕ) → getD s i 0 < 128 → blankSize (drop i s) ≡ cond (blank1 (getD s i 0)) 1 0
+ascii-blank s i h = blank-at s i ∙ ascii-width (getD s i 0) (getD s (i + 1) 0) (getD s (i + 2) 0) h
+
+-- one of n ASCII bytes
+pub ascii-at : (s : List ℕ) (i k n : ℕ) → k < n → i + n ≤ length s → n ≤ toFirst (leb 128) (drop i s) → getD s (i + k) 0 < 128
+ascii-at s i k n lt le h =
+    let f : toFirst (leb 128) (drop i s) ≡ k + toFirst (leb 128) (drop (i + k) s) =
+    sym (first-past (leb 128) (drop i s) k (omega arith)) ∙ ap (λ (l : List ℕ). k + toFirst (leb 128) l) (drop-drop k i s) in
+    leb-false 128 (getD s (i + k) 0) (first-plain (leb 128) s (i + k) (omega arith) (omega (arith, f)))

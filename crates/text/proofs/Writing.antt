@@ -114,12 +114,12 @@ appends-set v at c lt = record {
   grows = omega arith;
 }
 
--- past the end nothing fits
-pub appends-full : (v : List Cell) (at : ℕ) (c : Cell) (r : ℕ) → length v ≤ at → length v < r → at ≤ r → Appends v at v r (c ∷ [])
-appends-full v at c r out far up = record {
+-- more cells than fit
+pub appends-over : (v : List Cell) (at : ℕ) (t : List Cell) (r : ℕ) → length v < at + length t → length v < r → at ≤ r → Appends v at v r t
+appends-over v at t r out far up = record {
   step = λ s h.
-      let e : length (s ++ (c ∷ [])) ≡ length s + 1 = length-append s (c ∷ []) in
-      let no-room : length (s ++ (c ∷ [])) ≤ length v → ⊥ = λ le. (let n : at ≡ length s = h .end (omega arith) in omega arith) in
+      let e : length (s ++ t) ≡ length s + length t = length-append s t in
+      let no-room : length (s ++ t) ≤ length v → ⊥ = λ le. (let n : at ≡ length s = h .end (omega arith) in omega arith) in
       record {
         end = λ le. absurd (no-room le);
         text = λ le. absurd (no-room le);
@@ -129,13 +129,9 @@ appends-full v at c r out far up = record {
   grows = up;
 }
 
--- ---- a turn of a loop that copies
-
--- the cells up to i, and then the cell at i
-pub copy-turn : {v v₁ v₂ : List Cell} {at to r : ℕ} (bs ns : List ℕ) (a i : ℕ)
-    → Appends v at v₁ to (part a i (cells bs ns)) → Appends v₁ to v₂ r (cell (getD bs i 0) (getD ns i 0) ∷ [])
-    → a ≤ i → i < length bs → i < length ns → Appends v at v₂ r (part a (i + 1) (cells bs ns))
-copy-turn bs ns a i p q h k m = rw (part-snoc bs ns a i k m h) (appends-then p q)
+-- past the end nothing fits
+pub appends-full : (v : List Cell) (at : ℕ) (c : Cell) (r : ℕ) → length v ≤ at → length v < r → at ≤ r → Appends v at v r (c ∷ [])
+appends-full v at c r out far up = appends-over v at (c ∷ []) r (omega arith) far up
 
 -- ---- a loop that appends: what is still to be written (rest) of all that is to be appended (whole)
 

@@ -1,40 +1,26 @@
-// Writing into an area of a longer pair of slices: up to a place `end`, and nothing behind it changes. What stands before the area is a
+// Copying into an area of a longer pair of slices: up to a place `end`, and nothing behind it changes. What stands before the area is a
 // source: its cells can be appended too.
 use crate::PostAt;
 use crate::TextAt;
 ghost use mathlib.Core.Path.{_≡_};
-ghost use mathlib.Core.List.{[], _∷_};
 ghost use Prim.Native.Nat.{_-_, _≤_};
 ghost use lib.ListN.{length};
-ghost use Rattle.text.specs.Cells.{cell, cells, part};
+ghost use lib.Dec.{ltb};
+ghost use Rattle.text.specs.Cells.{cells, part};
 ghost use Rattle.text.specs.Writes.{AppendsIn};
 
 // The place past every slice's end.
 const FULL: usize = 0xffff_ffff_ffff_ffff;
 
-// How many cells fit from a place on.
-fn room(at: TextAt, end: usize) -> usize
-    ensures { λ r. ⌜ r ≡ end - at .0 ⌝ }
+// Whether n cells are more than fit from a place on.
+fn overflows(n: usize, at: TextAt, end: usize) -> bool
+    ensures { λ r. ⌜ r ≡ ltb (end - at .0) n ⌝ }
 {
     let i = at.0;
     if i < end {
-        return end - i;
+        return end - i < n;
     }
-    0
-}
-
-// Appends one cell.
-pub fn put_in(buf: &mut [u8], nums: &mut [u32], end: usize, at: TextAt, b: u8, x: u32) -> TextAt
-    requires { ⌜ (end ≤ length (now buf)) × (end ≤ length (now nums)) ⌝ }
-    ensures { λ r. ⌜ AppendsIn (now (buf .entry)) (now (nums .entry)) end (at .0) (now (buf .exit)) (now (nums .exit)) (r .0) (cell b x ∷ []) ⌝ }
-{
-    let i = at.0;
-    if 0 < room(at, end) {
-        buf[i] = b;
-        nums[i] = x;
-        return TextAt(i + 1);
-    }
-    TextAt(FULL)
+    0 < n
 }
 
 // Appends the cells of another pair of slices from a up to e.
@@ -51,14 +37,20 @@ pub fn copy_in(
     requires { ⌜ ((a .0 ≤ e .0) × ((e .0 ≤ length (now src)) × (e .0 ≤ length (now from)))) × ((end ≤ length (now buf)) × (end ≤ length (now nums))) ⌝ }
     ensures { λ r. ⌜ AppendsIn (now (buf .entry)) (now (nums .entry)) end (at .0) (now (buf .exit)) (now (nums .exit)) (r .0) (part (a .0) (e .0) (cells (now (src .entry)) (now (from .entry)))) ⌝ }
 {
+    let first = a.0;
     let last = e.0;
-    let mut i = a.0;
-    let mut to = at;
+    if overflows(last - first, at, end) {
+        return TextAt(FULL);
+    }
+    let mut i = first;
+    let mut to = at.0;
     while i < last {
-        to = put_in(buf, nums, end, to, src[i], from[i]);
+        buf[to] = src[i];
+        nums[to] = from[i];
+        to += 1;
         i += 1;
     }
-    to
+    TextAt(to)
 }
 
 // Appends the cells from a up to e of the same pair of slices, which stand before the place.
@@ -73,14 +65,18 @@ pub fn copy_within(
     requires { ⌜ ((a .0 ≤ e .0) × (e .0 ≤ at .0)) × ((e .0 ≤ end) × ((end ≤ length (now buf)) × (end ≤ length (now nums)))) ⌝ }
     ensures { λ r. ⌜ AppendsIn (now (buf .entry)) (now (nums .entry)) end (at .0) (now (buf .exit)) (now (nums .exit)) (r .0) (part (a .0) (e .0) (cells (now (buf .entry)) (now (nums .entry)))) ⌝ }
 {
+    let first = a.0;
     let last = e.0;
-    let mut i = a.0;
-    let mut to = at;
+    if overflows(last - first, at, end) {
+        return TextAt(FULL);
+    }
+    let mut i = first;
+    let mut to = at.0;
     while i < last {
-        let b = buf[i];
-        let x = nums[i];
-        to = put_in(buf, nums, end, to, b, x);
+        buf[to] = buf[i];
+        nums[to] = nums[i];
+        to += 1;
         i += 1;
     }
-    to
+    TextAt(to)
 }

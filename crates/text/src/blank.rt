@@ -2,12 +2,16 @@
 use crate::PostAt;
 use crate::scan::byte_at;
 use crate::scan::is_inside;
+use crate::scan::is_wide_16;
 ghost use mathlib.Core.Path.{_≡_};
 ghost use mathlib.Core.Bool.{cond};
-ghost use Prim.Native.Nat.{_≤_, _<_};
-ghost use lib.ListN.{length, drop};
+ghost use mathlib.Core.List.{_++_};
+ghost use Prim.Native.Nat.{suc, _+_, _≤_, _<_};
+ghost use lib.ListN.{length, take, drop};
+ghost use lib.Dec.{leb};
+ghost use Rattle.text.specs.Ascii.{toFirst};
 ghost use Rattle.text.specs.Blanks.{blank1, blank2, blankE280, blank3, blankWidth, blankSize};
-ghost use Rattle.text.specs.Cells.{blankAt, moreAfter, cells, cellsOf};
+ghost use Rattle.text.specs.Cells.{blankAt, moreAfter, cells, cellsFrom, cellsOf};
 
 fn is_blank1(a: u8) -> bool
     ensures { λ r. ⌜ r ≡ blank1 a ⌝ }
@@ -123,6 +127,59 @@ pub fn place_at(s: &[u8], at: PostAt, more: usize) -> Place
     }
 }
 
+// 1 for an ASCII byte that is blank, else 0.
+fn ascii_blank(b: u8) -> u32
+    ensures { λ r. ⌜ r ≡ cond (blank1 b) 1 0 ⌝ }
+{
+    if is_blank1(b) {
+        return 1;
+    }
+    0
+}
+
+// Numbers the 16 bytes from i on, all ASCII.
+fn number_16(s: &[u8], i: usize, nums: &mut [u32])
+    requires { ⌜ ((length (now s) ≤ 262144) × (length (now s) ≤ length (now nums))) × ((i + 16 ≤ length (now s)) × (16 ≤ toFirst (leb 128) (drop i (now s)))) ⌝ }
+    ensures { λ _. ⌜ take i (cells (now (s .entry)) (now (nums .entry))) ++ cellsFrom suc (i + 1) 0 (drop i (now (s .entry))) ≡ take (i + 16) (cells (now (s .entry)) (now (nums .exit))) ++ cellsFrom suc (i + 16 + 1) 0 (drop (i + 16) (now (s .entry))) ⌝ }
+{
+    let mut k: usize = 0;
+    while k < 16 {
+        nums[i + k] = 2 * ((i + k + 1) as u32) + ascii_blank(s[i + k]);
+        k += 1;
+    }
+}
+
+// Numbers the bytes from i up to e, where `more` bytes are left of a blank character that began before; how many are left behind e.
+fn number_part(s: &[u8], i: usize, e: usize, more: usize, nums: &mut [u32]) -> usize
+    requires { ⌜ ((length (now s) ≤ 262144) × (length (now s) ≤ length (now nums))) × ((i ≤ e) × (e ≤ length (now s))) ⌝ }
+    ensures { λ r. ⌜ take i (cells (now (s .entry)) (now (nums .entry))) ++ cellsFrom suc (i + 1) more (drop i (now (s .entry))) ≡ take e (cells (now (s .entry)) (now (nums .exit))) ++ cellsFrom suc (e + 1) r (drop e (now (s .entry))) ⌝ }
+{
+    let mut left = more;
+    let mut j = i;
+    while j < e {
+        let p = place_at(s, PostAt(j), left);
+        nums[j] = 2 * ((j + 1) as u32) + p.blank;
+        left = p.more;
+        j += 1;
+    }
+    left
+}
+
+// Numbers 16 bytes from i on.
+fn number_block(s: &[u8], i: usize, more: usize, nums: &mut [u32]) -> usize
+    requires { ⌜ ((length (now s) ≤ 262144) × (length (now s) ≤ length (now nums))) × (i + 16 ≤ length (now s)) ⌝ }
+    ensures { λ r. ⌜ take i (cells (now (s .entry)) (now (nums .entry))) ++ cellsFrom suc (i + 1) more (drop i (now (s .entry))) ≡ take (i + 16) (cells (now (s .entry)) (now (nums .exit))) ++ cellsFrom suc (i + 16 + 1) r (drop (i + 16) (now (s .entry))) ⌝ }
+{
+    if more == 0 {
+        if is_wide_16(s, i) {
+            return number_part(s, i, i + 16, 0, nums);
+        }
+        number_16(s, i, nums);
+        return 0;
+    }
+    number_part(s, i, i + 16, more, nums)
+}
+
 // Numbers the bytes of a text as a post's cells.
 pub fn number(s: &[u8], nums: &mut [u32])
     requires { ⌜ (length (now s) ≤ 262144) × (length (now s) ≤ length (now nums)) ⌝ }
@@ -130,10 +187,9 @@ pub fn number(s: &[u8], nums: &mut [u32])
 {
     let mut more: usize = 0;
     let mut i: usize = 0;
-    while i < s.len() {
-        let p = place_at(s, PostAt(i), more);
-        nums[i] = 2 * ((i + 1) as u32) + p.blank;
-        more = p.more;
-        i += 1;
+    while 16 <= s.len() - i {
+        more = number_block(s, i, more, nums);
+        i += 16;
     }
+    number_part(s, i, s.len(), more, nums);
 }

@@ -1,7 +1,12 @@
 // What is lent, and the refusals 1 to 4 that every operation on a text begins with (document 01, "Lent memory and turned-back calls").
+use crate::PostAt;
+use crate::scan::next_byte;
 use crate::utf8::is_utf8;
 ghost use mathlib.Core.Path.{_≡_};
 ghost use Prim.Native.Nat.{_≤_};
+ghost use lib.ListN.{length};
+ghost use lib.Dec.{eqb, ltb};
+ghost use Rattle.text.specs.Ascii.{toFirst};
 ghost use Rattle.text.specs.Lent.{numberOf, spansRight, sizesRight, anyZeroOrReturn, checked};
 
 // A text's greatest length, and an output's.
@@ -88,20 +93,20 @@ fn sizes_right(n: usize, lent: Lent) -> bool
     spans_right(n, spans)
 }
 
+fn has_byte(s: &[u8], b: u8) -> bool
+    ensures { λ r. ⌜ r ≡ ltb (toFirst (λ x. eqb x b) (now (s .entry))) (length (now (s .entry))) ⌝ }
+{
+    let at = next_byte(s, PostAt(0), b);
+    at.0 < s.len()
+}
+
 fn has_zero_or_return(s: &[u8]) -> bool
     ensures { λ r. ⌜ r ≡ anyZeroOrReturn (now (s .entry)) ⌝ }
 {
-    let mut i: usize = 0;
-    while i < s.len() {
-        if s[i] == 0 {
-            return true;
-        }
-        if s[i] == 13 {
-            return true;
-        }
-        i += 1;
+    if has_byte(s, 0) {
+        return true;
     }
-    false
+    has_byte(s, 13)
 }
 
 // The first of the refusals 1 to 4 that applies.

@@ -1,9 +1,10 @@
-// Reading bytes: ranges, tag letters in either ASCII case, the next `]`.
+// Reading bytes: ranges, tag letters in either ASCII case, the next byte of a kind.
 use crate::PostAt;
 ghost use mathlib.Core.Path.{_≡_};
 ghost use Prim.Native.Nat.{_+_, _≤_};
 ghost use lib.ListN.{length, getD, drop};
-ghost use Rattle.text.specs.Ascii.{inside, small, begins, toBracket};
+ghost use lib.Dec.{eqb, leb, ltb};
+ghost use Rattle.text.specs.Ascii.{inside, small, begins, toFirst, toBracket};
 
 // The byte at i, 0 past the end.
 pub fn byte_at(s: &[u8], i: usize) -> u8
@@ -54,17 +55,68 @@ pub fn begins_at(s: &[u8], at: PostAt, word: &[u8]) -> bool
     true
 }
 
-// The place of the first `]` from a place on, or the end.
-pub fn next_bracket(s: &[u8], at: PostAt) -> PostAt
-    requires { ⌜ at .0 ≤ length (now s) ⌝ }
-    ensures { λ r. ⌜ r .0 ≡ at .0 + toBracket (drop (at .0) (now (s .entry))) ⌝ }
+// Whether a byte stands among the 16 from i on: one comparison of all 16 where the machine has it.
+fn stands_in_16(s: &[u8], i: usize, b: u8) -> bool
+    requires { ⌜ i + 16 ≤ length (now s) ⌝ }
+    ensures { λ r. ⌜ r ≡ ltb (toFirst (λ x. eqb x b) (drop i (now (s .entry)))) 16 ⌝ }
 {
-    let mut i = at.0;
+    let mut stands = false;
+    let mut k: usize = 0;
+    while k < 16 {
+        stands = stands | (s[i + k] == b);
+        k += 1;
+    }
+    stands
+}
+
+// Whether one of the 16 bytes from i on is not ASCII.
+pub fn is_wide_16(s: &[u8], i: usize) -> bool
+    requires { ⌜ i + 16 ≤ length (now s) ⌝ }
+    ensures { λ r. ⌜ r ≡ ltb (toFirst (leb 128) (drop i (now (s .entry)))) 16 ⌝ }
+{
+    let mut wide = false;
+    let mut k: usize = 0;
+    while k < 16 {
+        wide = wide | (128 <= s[i + k]);
+        k += 1;
+    }
+    wide
+}
+
+// The place from which on to look for a byte one by one: none stands between.
+fn past_16s(s: &[u8], at: usize, b: u8) -> usize
+    requires { ⌜ at ≤ length (now s) ⌝ }
+    ensures { λ r. ⌜ (r ≤ length (now (s .entry))) × (r + toFirst (λ x. eqb x b) (drop r (now (s .entry))) ≡ at + toFirst (λ x. eqb x b) (drop at (now (s .entry)))) ⌝ }
+{
+    let mut i = at;
+    while 16 <= s.len() - i {
+        if stands_in_16(s, i, b) {
+            return i;
+        }
+        i += 16;
+    }
+    i
+}
+
+// The place of the first byte b from a place on, or the end.
+pub fn next_byte(s: &[u8], at: PostAt, b: u8) -> PostAt
+    requires { ⌜ at .0 ≤ length (now s) ⌝ }
+    ensures { λ r. ⌜ r .0 ≡ at .0 + toFirst (λ x. eqb x b) (drop (at .0) (now (s .entry))) ⌝ }
+{
+    let mut i = past_16s(s, at.0, b);
     while i < s.len() {
-        if s[i] == b']' {
+        if s[i] == b {
             return PostAt(i);
         }
         i += 1;
     }
     PostAt(i)
+}
+
+// The place of the first `]` from a place on, or the end.
+pub fn next_bracket(s: &[u8], at: PostAt) -> PostAt
+    requires { ⌜ at .0 ≤ length (now s) ⌝ }
+    ensures { λ r. ⌜ r .0 ≡ at .0 + toBracket (drop (at .0) (now (s .entry))) ⌝ }
+{
+    next_byte(s, at, b']')
 }

@@ -1,5 +1,6 @@
 // Trimming and lines, over a part of a pair of slices.
 use crate::PostAt;
+use crate::scan::next_byte;
 ghost use mathlib.Core.Path.{_≡_};
 ghost use mathlib.Core.List.{_∷_};
 ghost use Prim.Native.Nat.{_+_, _≤_, _<_};
@@ -75,7 +76,8 @@ pub fn line_end(src: &[u8], from: &[u32], a: PostAt, e: PostAt) -> PostAt
         if is_feed(src[i], from[i]) {
             return PostAt(i);
         }
-        i += 1;
+        let next = next_byte(&src[..end], PostAt(i + 1), b'\n');
+        i = next.0;
     }
     PostAt(i)
 }

@@ -1,9 +1,10 @@
 // UTF-8 by RFC 3629, section 4.
 use crate::scan::byte_at;
 use crate::scan::is_inside;
+use crate::scan::is_wide_16;
 ghost use mathlib.Core.Path.{_≡_};
 ghost use mathlib.Core.Bool.{_&&_};
-ghost use Prim.Native.Nat.{_<_};
+ghost use Prim.Native.Nat.{_≤_, _<_};
 ghost use lib.ListN.{length, drop};
 ghost use Rattle.text.specs.Ascii.{inside};
 ghost use Rattle.text.specs.Utf8.{tail, utf8-3, utf8-4, size, charSize, utf8};
@@ -103,11 +104,30 @@ fn char_size(s: &[u8], i: usize) -> usize
     )
 }
 
+// Past blocks of 16 ASCII bytes from a place on.
+fn past_ascii(s: &[u8], at: usize) -> usize
+    requires { ⌜ at ≤ length (now s) ⌝ }
+    ensures { λ r. ⌜ (at ≤ r) × (r ≤ length (now (s .entry))) × (utf8 (drop at (now (s .entry))) ≡ utf8 (drop r (now (s .entry)))) ⌝ }
+{
+    let mut i = at;
+    while 16 <= s.len() - i {
+        if is_wide_16(s, i) {
+            return i;
+        }
+        i += 16;
+    }
+    i
+}
+
 pub fn is_utf8(s: &[u8]) -> bool
     ensures { λ r. ⌜ r ≡ utf8 (now (s .entry)) ⌝ }
 {
     let mut i: usize = 0;
     while i < s.len() {
+        i = past_ascii(s, i);
+        if s.len() <= i {
+            return true;
+        }
         let n = char_size(s, i);
         if n == 0 {
             return false;

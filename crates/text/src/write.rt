@@ -1,12 +1,13 @@
 // Writing cells into a lent pair of slices, one behind the other. A place past the end says that the text did not fit; it stays there.
 use crate::PostAt;
 use crate::TextAt;
+use crate::area::copy_in;
 use crate::blank::place_at;
 use crate::zero::zero8;
 use crate::zero::zero32;
 ghost use mathlib.Core.Path.{_≡_};
 ghost use mathlib.Core.List.{[], _∷_, map};
-ghost use Prim.Native.Nat.{_+_, _/_, _≤_};
+ghost use Prim.Native.Nat.{_+_, _/_, _≤_, min};
 ghost use lib.ListN.{length, take};
 ghost use Rattle.text.specs.Cells.{cell, cells, part, written, feed, sign};
 ghost use Rattle.text.specs.Decimal.{decimal};
@@ -44,6 +45,15 @@ pub fn put_sign(buf: &mut [u8], nums: &mut [u32], at: TextAt, b: u8) -> TextAt
     put(buf, nums, at, b, 0)
 }
 
+fn shorter(a: usize, b: usize) -> usize
+    ensures { λ r. ⌜ r ≡ min a b ⌝ }
+{
+    if a < b {
+        return a;
+    }
+    b
+}
+
 // Appends the cells of a source from a up to e.
 pub fn copy(
     src: &[u8],
@@ -57,14 +67,8 @@ pub fn copy(
     requires { ⌜ (a .0 ≤ e .0) × ((e .0 ≤ length (now src)) × (e .0 ≤ length (now from))) ⌝ }
     ensures { λ r. ⌜ Appends (cells (now (buf .entry)) (now (nums .entry))) (at .0) (cells (now (buf .exit)) (now (nums .exit))) (r .0) (part (a .0) (e .0) (cells (now (src .entry)) (now (from .entry)))) ⌝ }
 {
-    let end = e.0;
-    let mut i = a.0;
-    let mut to = at;
-    while i < end {
-        to = put(buf, nums, to, src[i], from[i]);
-        i += 1;
-    }
-    to
+    let end = shorter(buf.len(), nums.len());
+    copy_in(src, from, a, e, buf, nums, end, at)
 }
 
 // Appends a text that a rule writes.

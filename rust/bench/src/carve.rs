@@ -75,7 +75,7 @@ impl Lent {
                 self.origins.as_mut_ptr(),
                 self.origins.len(),
                 self.records.as_mut_ptr(),
-                self.records.len(),
+                self.records.len() / 5,
                 self.loss_bytes.as_mut_ptr(),
                 self.loss_bytes.len(),
                 self.work.as_mut_ptr(),

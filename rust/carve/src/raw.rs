@@ -18,9 +18,9 @@ pub struct Record {
     pub length: u32,
 }
 
-/// A slice of records as two arguments. The library counts its length in numbers, five a record.
+/// A slice of records as two arguments.
 pub fn lent_records(records: &mut [Record]) -> (*mut Record, usize) {
-    (records.as_mut_ptr(), 5 * records.len())
+    (records.as_mut_ptr(), records.len())
 }
 
 /// `carve_post`, `carve_quotes` and `carve_attribution` are lent the same.

@@ -13,42 +13,45 @@ use Rattle.attribution_losses.proofs.loss.put_losses.Reads as put-losses-reads
 use Rattle.text.proofs.zero.zero32.Reads as zero32-reads
 use Rattle.text.proofs.zero.zero8.Reads as zero8-reads
 
+-- src/lib.rt:88:9
 put-losses-requires : tie.Need-put-losses-requires
 put-losses-requires c κs = search needs
 
+-- src/lib.rt:89:5
 zero8-requires : tie.Need-zero8-requires
 zero8-requires c κs = search needs
 
+-- src/lib.rt:90:5
 zero32-requires : tie.Need-zero32-requires
 zero32-requires c κs = search needs
 
-mul-t20 : tie.Need-mul-t20
-mul-t20 c = search needs
-
-zero32-requires-2 : tie.Need-zero32-requires-2
-zero32-requires-2 c κs = search needs
-
+-- src/lib.rt:91:5
 zero8-requires-2 : tie.Need-zero8-requires-2
 zero8-requires-2 c κs = search needs
 
+-- src/lib.rt:77:1
 same-length : tie.Need-same-length
 same-length c = search needs
 
+-- src/lib.rt:77:1
 same-length-2 : tie.Need-same-length-2
 same-length-2 c = search needs
 
+-- src/lib.rt:77:1
 same-length-3 : tie.Need-same-length-3
 same-length-3 c = search needs
 
+-- src/lib.rt:77:1
 same-length-4 : tie.Need-same-length-4
 same-length-4 c = search needs
 
+-- src/lib.rt:77:1
 returns : tie.Need-returns
 returns c =
-    let a = c .before .before .before .before .before .before .before .before .before .before .before .before .before .before .before .before .before .before .before .before .before .before .before .before .before .before .before .before .before .args in
-    let pre = c .before .before .before .before .before .before .before .before .before .before .before .before .before .before .before .before .before .before .before .before .before .before .before .before .before .before .before .before .before .pre in
-    let h = c .before .before .before .before .before .before .before .before .before .before .before .before .before .before .before .before .before .before .before .before .before .put-losses .ensures .0 in
-    (counted (a .text .now) (a .len) h, all-listed (a .text .now) (a .len) h (a .out .now) (a .origins .now) (pre .0 .1) (pre .1 .0) (pre .1 .1) (c .before .before .before .before .before .before .before .before .before .before .before .before .before .before .before .zero8 .ensures) (c .before .before .before .before .before .before .before .before .before .before .before .zero32 .ensures) (c .before .before .before .before .before .before .zero322 .ensures) (c .before .before .zero82 .ensures))
+    let a = c .before .before .before .before .before .before .before .before .before .before .before .before .before .before .before .before .before .before .before .before .before .before .before .before .args in
+    let pre = c .before .before .before .before .before .before .before .before .before .before .before .before .before .before .before .before .before .before .before .before .before .before .before .before .pre in
+    let h = c .before .before .before .before .before .before .before .before .before .before .before .before .before .before .before .before .put-losses .ensures .0 in
+    (counted (a .text .now) (a .len) h, all-listed (a .text .now) (a .len) h (a .out .now) (a .origins .now) (pre .0 .1) (pre .1 .1) (c .before .before .before .before .before .before .before .before .before .before .before .before .before .before .before .before .put-losses .ensures .1 .0) (c .before .before .before .before .before .before .before .before .before .before .zero8 .ensures) (c .before .before .before .before .before .before .zero32 .ensures) (c .before .before .zero82 .ensures))
 
 pub finish-spec : {M : Type 1} → statement M
 finish-spec =
@@ -57,8 +60,6 @@ finish-spec =
     put-losses-requires
     zero8-requires
     zero32-requires
-    mul-t20
-    zero32-requires-2
     zero8-requires-2
     same-length
     same-length-2

@@ -1,62 +1,52 @@
 use borrow.Author.Needs.{needs}
 use native.Mathlib.Omega.{arith}
 use mathlib.Core.Path.{_≡_, refl, sym, ap, _∙_}
-use Prim.Native.Nat.{ℕ, suc, _+_, _-_, _≤_, _<_}
+use Prim.Native.Nat.{ℕ, suc, _+_, _-_, _*_, _≤_, _<_}
 use mathlib.Core.List.{List, [], _∷_, _++_}
 use lib.ListN.{length, getD}
+use lib.Seq.{length-take-le}
 use Rattle.listing.proofs.Laws.{adds-listing}
 use Rattle.listing.proofs.put_listing.Statement.{statement}
 use Rattle.listing.proofs.put_listing.Tie as tie
 use Rattle.listing.proofs.put_listing.Reads as reads
 use Rattle.listing.proofs.put_listing.Lts as lts
-use Rattle.listing.proofs.count_copied.Reads as count-copied-reads
-use Rattle.listing.proofs.put_counts.Reads as put-counts-reads
-use Rattle.listing.proofs.put_line.Reads as put-line-reads
-use Rattle.listing.proofs.put_losses.Reads as put-losses-reads
 
--- src/lib.rt:189:9
 count-copied-requires : tie.Need-count-copied-requires
 count-copied-requires c κs = search needs
 
--- src/lib.rt:191:9
 cast-put-counts : tie.Need-cast-put-counts
 cast-put-counts c = search needs
 
--- src/lib.rt:192:9
 cast-put-counts-2 : tie.Need-cast-put-counts-2
 cast-put-counts-2 c = search needs
 
--- src/lib.rt:193:9
 cast-put-counts-3 : tie.Need-cast-put-counts-3
 cast-put-counts-3 c = search needs
 
--- src/lib.rt:190:9
 put-counts-requires : tie.Need-put-counts-requires
 put-counts-requires c κs = search needs
 
--- src/lib.rt:198:9
 put-losses-requires : tie.Need-put-losses-requires
-put-losses-requires c κs = search needs
+put-losses-requires c κs =
+    c .before .before .before .before .before .before .before .before .before .before .before .before .before .before .before .pre .1 .1
 
--- src/lib.rt:199:14
 slice-aggregate-put-line : tie.Need-slice-aggregate-put-line
 slice-aggregate-put-line c = search needs
 
--- src/lib.rt:199:5
 put-line-requires : tie.Need-put-line-requires
 put-line-requires c κs = search needs
 
--- src/lib.rt:177:1
 same-length : tie.Need-same-length
 same-length c = search needs
 
--- src/lib.rt:177:1
 same-length-2 : tie.Need-same-length-2
 same-length-2 c = search needs
 
--- src/lib.rt:177:1
 returns : tie.Need-returns
-returns c = adds-listing _ _ _ _ _ (c .before .before .before .before .before .before .before .before .before .before .before .before .before .before .before .before .before .before .before .before .before .before .count-copied .ensures .0) (c .before .before .before .before .before .before .before .before .before .before .before .before .before .before .before .before .before .before .before .put-counts .ensures) (c .before .before .before .before .before .before .before .before .before .before .before .before .put-losses .ensures) (c .before .before .before .before .put-line .ensures)
+returns c =
+    let a = c .before .before .before .before .before .before .before .before .before .before .before .before .before .before .before .before .before .before .before .before .before .before .before .before .before .before .before .before in
+    let n = length-take-le (a .args .count) (a .args .records) (omega (arith, a .pre .1 .1 .0, a .pre .1 .1 .1)) in
+    adds-listing _ _ _ _ _ _ (c .before .before .before .before .before .before .before .before .before .before .before .before .before .before .before .before .before .before .before .before .before .before .count-copied .ensures .0) (sym n) (c .before .before .before .before .before .before .before .before .before .before .before .before .before .before .before .before .before .before .before .put-counts .ensures) (c .before .before .before .before .before .before .before .before .before .before .before .before .put-losses .ensures) (c .before .before .before .before .put-line .ensures)
 
 pub put-listing-spec : {M : Type 1} → statement M
 put-listing-spec =

@@ -8,154 +8,155 @@ use lib.ListN.{take}
 use lib.Seq.{length-take-le}
 use Rattle.text.specs.Cells.{cells}
 use Rattle.text.proofs.Clearing.{cells-bytes}
-use Rattle.quotes.proofs.Conversion.{listed-there, listed-counts, within}
-use Rattle.post.proofs.Calling.{ends-refused, ends-as, ends-listed, marked-by, answer-refused, answer-fine}
+use Rattle.quotes.proofs.Recording.{back-long}
+use Rattle.quotes.proofs.Conversion.{spelled-there, records-there, listed-counts, within}
+use Rattle.post.proofs.Calling.{ends-refused, ends-as, ends-spelled, marked-by, answer-refused, answer-fine, refused-noted, quoting-noted}
 use Rattle.post.proofs.convert_marked.Statement.{statement}
 use Rattle.post.proofs.convert_marked.Tie as tie
 use Rattle.post.proofs.convert_marked.Reads as reads
 use Rattle.post.proofs.convert_marked.Lts as lts
-use Rattle.post.proofs.is_deep_in.Reads as is-deep-in-reads
-use Rattle.post.proofs.list_lost.Reads as list-lost-reads
-use Rattle.post.proofs.refuse.Reads as refuse-reads
-use Rattle.post.proofs.write_quotes.Reads as write-quotes-reads
-use Rattle.quotes.proofs.refusal_of.Reads as refusal-of-reads
 
--- src/lib.rt:166:9
+mul-base : tie.Need-mul-base
+mul-base c = search needs
+
 is-deep-in-requires : tie.Need-is-deep-in-requires
 is-deep-in-requires c κs = search needs
 
--- src/lib.rt:167:9
 list-lost-requires : tie.Need-list-lost-requires
-list-lost-requires c κs = search needs
+list-lost-requires c κs =
+    let pre = c .before .before .before .before .before .before .before .before .before .before .before .before .pre in ((pre .0 .0, (omega (arith, pre .1 .0), omega (arith, pre .1 .1 .0))), (pre .0 .1 .0 .0, omega (arith, pre .0 .1 .0 .0, pre .0 .1 .1 .0)))
 
--- src/lib.rt:171:9
 refusal-of-requires : tie.Need-refusal-of-requires
 refusal-of-requires c κs = search needs
 
--- src/lib.rt:173:26
 enum-known-refused : tie.Need-enum-known-refused
 enum-known-refused c = search needs
 
--- src/lib.rt:173:32
 refuse-requires : tie.Need-refuse-requires
 refuse-requires c κs = search needs
 
--- src/lib.rt:174:45
 enum-told : tie.Need-enum-told
 enum-told c = search needs
 
--- src/lib.rt:174:26
+mul-write-quotes : tie.Need-mul-write-quotes
+mul-write-quotes c = search needs
+
+sub-write-quotes : tie.Need-sub-write-quotes
+sub-write-quotes c =
+    omega (arith, c .before .before .before .before .before .before .before .before .before .before .before .before .before .before .before .before .before .before .before .before .before .before .before .before .before .pre .1 .1 .0, c .before .before .before .before .before .before .before .before .before .before .before .before .list-lost .kept .1 .1 .1 .1 .0)
+
+part-write-quotes-start : tie.Need-part-write-quotes-start
+part-write-quotes-start c =
+    omega (arith, c .before .before .before .before .before .before .before .before .before .before .before .before .before .before .before .before .before .before .before .before .before .before .before .before .before .pre .1 .1 .0, c .before .before .before .before .before .before .before .before .before .before .before .before .list-lost .kept .1 .1 .1 .1 .0)
+
+part-write-quotes-end : tie.Need-part-write-quotes-end
+part-write-quotes-end c = search needs
+
 write-quotes-requires : tie.Need-write-quotes-requires
-write-quotes-requires c κs = let s = c .before .before .before .before .before .before .before .before .before .before .before .before .before .before .before .before .before .before .before .before .before .before .before .before .before .before .before .before .before .before .before .before .before .before .args in
-    let pre = c .before .before .before .before .before .before .before .before .before .before .before .before .before .before .before .before .before .before .before .before .before .before .before .before .before .before .before .before .before .before .before .before .before .before .pre in
-    let p = c .before .before .before .before .before .before .before .before .before .before .before .before .before .before .before .before .before .before .before .list-lost in
+write-quotes-requires c κs =
+    let s = c .before .before .before .before .before .before .before .before .before .before .before .before .before .before .before .before .before .before .before .before .before .before .before .before .before .before .before .before .before .args in
+    let pre = c .before .before .before .before .before .before .before .before .before .before .before .before .before .before .before .before .before .before .before .before .before .before .before .before .before .before .before .before .before .pre in
+    let p = c .before .before .before .before .before .before .before .before .before .before .before .before .before .before .before .before .list-lost in
     let lw = p .kept .1 .1 .1 .0 in
     let ln = p .kept .1 .1 .1 .1 .0 in
-    let lr = p .kept .1 .1 .1 .1 .1 .0 in
     let lb = p .kept .1 .1 .1 .1 .1 .1 .0 in
     let x = take (s .n) (cells (s .out .now) (s .origins .now)) in
-    let e = cells-bytes (s .n) (s .out .now) (s .origins .now) (omega (arith, pre)) (omega (arith, pre)) in
-    let l = length-take-le (s .n) (s .out .now) (omega (arith, pre)) in
-    let w = within (c .before .before .before .before .before .before .before .before .before .before .before .before .before .before .before .before .before .before .before .before .before .before .before .before .before .is-deep-in .result) _ _ (p .result .losses) (p .result .bytes) (sym (c .before .before .before .before .before .before .before .before .refusal-of .ensures) ∙ c .before .before .before .before .before .before .enum-told .given .1) in
-    ((((omega (arith, pre), (omega (arith, pre), omega (arith, pre))), (omega (arith, pre, lw), (omega (arith, pre, ln), omega (arith, pre, ln)))), (omega (arith, pre, l, p .ensures .few), (w .1 .0, w .1 .1))), c .before .before .before .before .before .before .before .before .before .before .before .before .before .before .before .before .before .before .before .before .before .before .before .before .before .is-deep-in .ensures x e ∙ w .0)
+    let e = cells-bytes (s .n) (s .out .now) (s .origins .now) (pre .0 .1 .0 .0) (omega (arith, pre .0 .1 .0 .0, pre .0 .1 .1 .1)) in
+    let n = back-long (p .last .1 .1 .1 .1 .0) (5 * length (s .post .now)) in
+    let w = within (c .before .before .before .before .before .before .before .before .before .before .before .before .before .before .before .before .before .before .before .before .before .is-deep-in .result) (s .lent) _ (p .result .losses) (p .result .bytes) (sym (c .before .before .before .before .before .before .before .refusal-of .ensures) ∙ c .before .before .before .before .before .enum-told .given .1) in
+    ((((pre .0 .1 .0 .0, pre .0 .1 .1), (omega (arith, pre .1 .0, lw), (omega (arith, pre .1 .1 .0, ln, n), omega (arith, pre .1 .1 .1, ln, n)))), w .1 .1), c .before .before .before .before .before .before .before .before .before .before .before .before .before .before .before .before .before .before .before .before .before .is-deep-in .ensures x e ∙ w .0)
 
--- src/lib.rt:153:1
 same-length : tie.Need-same-length
 same-length c = search needs
 
--- src/lib.rt:153:1
 same-length-2 : tie.Need-same-length-2
 same-length-2 c = search needs
 
--- src/lib.rt:153:1
 same-length-3 : tie.Need-same-length-3
 same-length-3 c = search needs
 
--- src/lib.rt:153:1
 same-length-4 : tie.Need-same-length-4
 same-length-4 c = search needs
 
--- src/lib.rt:153:1
 same-length-5 : tie.Need-same-length-5
 same-length-5 c = search needs
 
--- src/lib.rt:153:1
+returns : tie.Need-returns
+returns c =
+    let s = c .before .before .before .before .before .before .before .before .before .before .before .before .before .before .before .before .before .before .before .before .before .before .before .before .before .before .before .before .before .before .before .before .before .before .before .args in
+    let pre = c .before .before .before .before .before .before .before .before .before .before .before .before .before .before .before .before .before .before .before .before .before .before .before .before .before .before .before .before .before .before .before .before .before .before .before .pre in
+    let p = c .before .before .before .before .before .before .before .before .before .before .before .before .before .before .before .before .before .before .before .before .before .before .list-lost in
+    let lw = p .kept .1 .1 .1 .0 in
+    let ln = p .kept .1 .1 .1 .1 .0 in
+    let lb = p .kept .1 .1 .1 .1 .1 .1 .0 in
+    let x = take (s .n) (cells (s .out .now) (s .origins .now)) in
+    let e = cells-bytes (s .n) (s .out .now) (s .origins .now) (pre .0 .1 .0 .0) (omega (arith, pre .0 .1 .0 .0, pre .0 .1 .1 .1)) in
+    let n = listed-counts (s .post .now) _ _ _ _ _ _ _ (p .ensures) x e in
+    let r = c .before .before .before .before .before .before .refuse .ensures in
+    (ends-refused _ (marked-by x _ _ _ _ _ _ _ lb (sym (c .before .before .before .before .before .before .before .before .before .before .before .before .before .before .before .before .before .before .before .before .before .before .before .before .before .before .before .is-deep-in .ensures x e)) (n .0) (n .1) ∙ answer-refused _ _ _ (sym (c .before .before .before .before .before .before .before .before .before .before .before .before .before .refusal-of .ensures) ∙ c .before .before .before .before .before .before .before .before .before .before .before .refused .given .1)) (r .0) (rw lb at (r .1)), refused-noted _ _ _ _ _ (r .0))
+
 same-length-6 : tie.Need-same-length-6
 same-length-6 c = search needs
 
--- src/lib.rt:153:1
-returns : tie.Need-returns
-returns c = let s = c .before .before .before .before .before .before .before .before .before .before .before .before .before .before .before .before .before .before .before .before .before .before .before .before .before .before .before .before .before .before .before .before .before .before .before .before .before .before .before .before .before .before .args in
-    let pre = c .before .before .before .before .before .before .before .before .before .before .before .before .before .before .before .before .before .before .before .before .before .before .before .before .before .before .before .before .before .before .before .before .before .before .before .before .before .before .before .before .before .before .pre in
-    let p = c .before .before .before .before .before .before .before .before .before .before .before .before .before .before .before .before .before .before .before .before .before .before .before .before .before .before .before .list-lost in
-    let lr = p .kept .1 .1 .1 .1 .1 .0 in
-    let lb = p .kept .1 .1 .1 .1 .1 .1 .0 in
-    let x = take (s .n) (cells (s .out .now) (s .origins .now)) in
-    let e = cells-bytes (s .n) (s .out .now) (s .origins .now) (omega (arith, pre)) (omega (arith, pre)) in
-    let n = listed-counts (s .post .now) _ _ _ _ _ _ _ (p .ensures) x e in
-    ends-refused _ (marked-by x _ _ _ _ _ _ _ _ lr lb (sym (c .before .before .before .before .before .before .before .before .before .before .before .before .before .before .before .before .before .before .before .before .before .before .before .before .before .before .before .before .before .before .before .before .before .is-deep-in .ensures x e)) (n .0) (n .1) ∙ answer-refused _ _ _ (sym (c .before .before .before .before .before .before .before .before .before .before .before .before .before .before .before .before .refusal-of .ensures) ∙ c .before .before .before .before .before .before .before .before .before .before .before .before .before .before .refused .given .1)) (c .before .before .before .before .before .before .before .before .refuse .ensures .0) (rw (lr, lb) at (c .before .before .before .before .before .before .before .before .refuse .ensures .1))
-
--- src/lib.rt:153:1
 same-length-7 : tie.Need-same-length-7
 same-length-7 c = search needs
 
--- src/lib.rt:153:1
 same-length-8 : tie.Need-same-length-8
 same-length-8 c = search needs
 
--- src/lib.rt:153:1
 same-length-9 : tie.Need-same-length-9
 same-length-9 c = search needs
 
--- src/lib.rt:153:1
 same-length-10 : tie.Need-same-length-10
 same-length-10 c = search needs
 
--- src/lib.rt:153:1
-same-length-11 : tie.Need-same-length-11
-same-length-11 c = search needs
-
--- src/lib.rt:153:1
-same-length-12 : tie.Need-same-length-12
-same-length-12 c = search needs
-
--- src/lib.rt:153:1
 returns-2 : tie.Need-returns-2
-returns-2 c = let s = c .before .before .before .before .before .before .before .before .before .before .before .before .before .before .before .before .before .before .before .before .before .before .before .before .before .before .before .before .before .before .before .before .before .before .before .before .before .before .before .before .before .before .before .before .before .before .before .args in
-    let pre = c .before .before .before .before .before .before .before .before .before .before .before .before .before .before .before .before .before .before .before .before .before .before .before .before .before .before .before .before .before .before .before .before .before .before .before .before .before .before .before .before .before .before .before .before .before .before .before .pre in
-    let p = c .before .before .before .before .before .before .before .before .before .before .before .before .before .before .before .before .before .before .before .before .before .before .before .before .before .before .before .before .before .before .before .before .list-lost in
-    let lr = p .kept .1 .1 .1 .1 .1 .0 in
+returns-2 c =
+    let s = c .before .before .before .before .before .before .before .before .before .before .before .before .before .before .before .before .before .before .before .before .before .before .before .before .before .before .before .before .before .before .before .before .before .before .before .before .before .before .before .before .args in
+    let pre = c .before .before .before .before .before .before .before .before .before .before .before .before .before .before .before .before .before .before .before .before .before .before .before .before .before .before .before .before .before .before .before .before .before .before .before .before .before .before .before .before .pre in
+    let p = c .before .before .before .before .before .before .before .before .before .before .before .before .before .before .before .before .before .before .before .before .before .before .before .before .before .before .before .list-lost in
+    let lw = p .kept .1 .1 .1 .0 in
+    let ln = p .kept .1 .1 .1 .1 .0 in
     let lb = p .kept .1 .1 .1 .1 .1 .1 .0 in
     let x = take (s .n) (cells (s .out .now) (s .origins .now)) in
-    let e = cells-bytes (s .n) (s .out .now) (s .origins .now) (omega (arith, pre)) (omega (arith, pre)) in
+    let e = cells-bytes (s .n) (s .out .now) (s .origins .now) (pre .0 .1 .0 .0) (omega (arith, pre .0 .1 .0 .0, pre .0 .1 .1 .1)) in
     let n = listed-counts (s .post .now) _ _ _ _ _ _ _ (p .ensures) x e in
-    let f = sym (c .before .before .before .before .before .before .before .before .before .before .before .before .before .before .before .before .before .before .before .before .before .refusal-of .ensures) ∙ c .before .before .before .before .before .before .before .before .before .before .before .before .before .before .before .before .before .before .before .enum-told .given .1 in
-    let w = within (c .before .before .before .before .before .before .before .before .before .before .before .before .before .before .before .before .before .before .before .before .before .before .before .before .before .before .before .before .before .before .before .before .before .before .before .before .before .before .is-deep-in .result) _ _ (p .result .losses) (p .result .bytes) f in
-    let there = listed-there (s .post .now) _ _ _ _ _ _ _ (p .ensures) x e (omega (arith, w .1 .0, lr)) (omega (arith, w .1 .1, lb)) in
-    ends-as (ends-listed (s .post .now) _ _ x _ _ there (rw (lr, lb) at (c .before .before .before .before .before .before .before .before .before .before .before .before .write-quotes .ensures))) (marked-by x _ _ _ _ _ _ _ _ lr lb (sym (c .before .before .before .before .before .before .before .before .before .before .before .before .before .before .before .before .before .before .before .before .before .before .before .before .before .before .before .before .before .before .before .before .before .before .before .before .before .before .is-deep-in .ensures x e)) (n .0) (n .1) ∙ answer-fine _ _ f)
+    let f = sym (c .before .before .before .before .before .before .before .before .before .before .before .before .before .before .before .before .before .before .refusal-of .ensures) ∙ c .before .before .before .before .before .before .before .before .before .before .before .before .before .before .before .before .enum-told .given .1 in
+    let w = within (c .before .before .before .before .before .before .before .before .before .before .before .before .before .before .before .before .before .before .before .before .before .before .before .before .before .before .before .before .before .before .before .before .is-deep-in .result) (s .lent) _ (p .result .losses) (p .result .bytes) f in
+    let there = spelled-there (s .post .now) _ _ _ _ _ _ _ (p .ensures) x e (omega (arith, w .1 .1, lb)) in
+    let l = length-take-le (s .n) (s .out .now) (pre .0 .1 .0 .0) in
+    let i = length-take-le (5 * length (s .post .now)) (s .numbers .now) (omega (arith, pre .1 .1 .0)) in
+    let g = rw lb at (c .before .before .before .before .before .before .before .before .before .before .write-quotes .ensures) in (
+      ends-as (ends-spelled _ x _ _ there g) (marked-by x _ _ _ _ _ _ _ lb (sym (c .before .before .before .before .before .before .before .before .before .before .before .before .before .before .before .before .before .before .before .before .before .before .before .before .before .before .before .before .before .before .before .before .is-deep-in .ensures x e)) (n .0) (n .1) ∙ answer-fine _ _ f),
+      quoting-noted _ _ _ (5 * length (s .post .now)) (p .last .1 .1 .1 .1 .0) _ (w .1 .0) (records-there (s .post .now) _ _ _ _ _ _ _ (p .ensures) x e (omega (arith, p .ensures .few, l, i, pre .0 .1 .0 .1)))
+          (omega (arith, p .ensures .few, l, pre .0 .1 .0 .1)) (omega (arith, pre .1 .1 .0, ln)) x _ _ _ (g .answer),
+    )
 
 pub convert-marked-spec : {M : Type 1} → statement M
 convert-marked-spec =
     tie.close
     (tie.spec
+    mul-base
     is-deep-in-requires
     list-lost-requires
     refusal-of-requires
     enum-known-refused
     refuse-requires
     enum-told
+    mul-write-quotes
+    sub-write-quotes
+    part-write-quotes-start
+    part-write-quotes-end
     write-quotes-requires
     same-length
     same-length-2
     same-length-3
     same-length-4
     same-length-5
-    same-length-6
     returns
+    same-length-6
     same-length-7
     same-length-8
     same-length-9
     same-length-10
-    same-length-11
-    same-length-12
     returns-2)

@@ -1,7 +1,7 @@
 use borrow.Author.Needs.{needs}
 use native.Mathlib.Omega.{arith}
 use mathlib.Core.Path.{_≡_, refl, sym, ap, _∙_}
-use Prim.Native.Nat.{ℕ, suc, _+_, _-_, _≤_, _<_}
+use Prim.Native.Nat.{ℕ, suc, _+_, _-_, _*_, _≤_, _<_}
 use mathlib.Core.List.{List, [], _∷_, _++_}
 use lib.ListN.{length, getD}
 use Rattle.text.proofs.Clearing.{cleared-all}
@@ -9,51 +9,33 @@ use Rattle.post.proofs.refuse.Statement.{statement}
 use Rattle.post.proofs.refuse.Tie as tie
 use Rattle.post.proofs.refuse.Reads as reads
 use Rattle.post.proofs.refuse.Lts as lts
-use Rattle.text.proofs.write.lay_nothing.Reads as lay-nothing-reads
-use Rattle.text.proofs.zero.zero32.Reads as zero32-reads
-use Rattle.text.proofs.zero.zero8.Reads as zero8-reads
 
--- src/lib.rt:54:5
 lay-nothing-requires : tie.Need-lay-nothing-requires
 lay-nothing-requires c κs = search needs
 
--- src/lib.rt:55:5
-zero32-requires : tie.Need-zero32-requires
-zero32-requires c κs = search needs
-
--- src/lib.rt:56:5
 zero8-requires : tie.Need-zero8-requires
 zero8-requires c κs = search needs
 
--- src/lib.rt:45:1
 same-length : tie.Need-same-length
 same-length c = search needs
 
--- src/lib.rt:45:1
 same-length-2 : tie.Need-same-length-2
 same-length-2 c = search needs
 
--- src/lib.rt:45:1
 same-length-3 : tie.Need-same-length-3
 same-length-3 c = search needs
 
--- src/lib.rt:45:1
-same-length-4 : tie.Need-same-length-4
-same-length-4 c = search needs
-
--- src/lib.rt:45:1
 returns : tie.Need-returns
-returns c = (refl, record { laid = c .before .before .before .before .before .before .before .before .before .before .before .before .lay-nothing .ensures; listed = c .before .before .before .before .before .before .zero32 .ensures ∙ cleared-all _; spelled = c .before .before .zero8 .ensures ∙ cleared-all _ })
+returns c =
+    (refl, record { laid = c .before .before .before .before .before .before .before .before .lay-nothing .ensures; spelled = c .before .before .zero8 .ensures ∙ cleared-all _ })
 
 pub refuse-spec : {M : Type 1} → statement M
 refuse-spec =
     tie.close
     (tie.spec
     lay-nothing-requires
-    zero32-requires
     zero8-requires
     same-length
     same-length-2
     same-length-3
-    same-length-4
     returns)

@@ -4,8 +4,6 @@ use mathlib.Core.Path.{_≡_, refl, sym, ap, _∙_}
 use Prim.Native.Nat.{ℕ, suc, _+_, _-_, _*_, _≤_, _<_}
 use mathlib.Core.List.{List, [], _∷_, _++_}
 use lib.ListN.{length, getD}
-use lib.ListN.{take}
-use Rattle.text.specs.Cells.{cells}
 use Rattle.text.proofs.Sources.{cells-taken}
 use Rattle.list_blocks.specs.Tags.{tooDeep}
 use Rattle.post.proofs.Calling.{ends-refused, cleared-taken, listing-deep, listing-full, listing-done}
@@ -13,125 +11,88 @@ use Rattle.post.proofs.write_lists.Statement.{statement}
 use Rattle.post.proofs.write_lists.Tie as tie
 use Rattle.post.proofs.write_lists.Reads as reads
 use Rattle.post.proofs.write_lists.Lts as lts
-use Rattle.lists.proofs.is_deep.Reads as is-deep-reads
-use Rattle.post.proofs.clear_behind.Reads as clear-behind-reads
-use Rattle.post.proofs.refuse.Reads as refuse-reads
-use Rattle.post_steps.proofs.list.list_text.Reads as list-text-reads
 
--- src/lib.rt:85:8
 is-deep-requires : tie.Need-is-deep-requires
 is-deep-requires c κs = search needs
 
--- src/lib.rt:86:9
 refuse-requires : tie.Need-refuse-requires
 refuse-requires c κs = search needs
 
--- src/lib.rt:86:9
 same-length : tie.Need-same-length
 same-length c = search needs
 
--- src/lib.rt:86:9
 same-length-2 : tie.Need-same-length-2
 same-length-2 c = search needs
 
--- src/lib.rt:86:9
 same-length-3 : tie.Need-same-length-3
 same-length-3 c = search needs
 
--- src/lib.rt:86:9
 same-length-4 : tie.Need-same-length-4
 same-length-4 c = search needs
 
--- src/lib.rt:86:9
 same-length-5 : tie.Need-same-length-5
 same-length-5 c = search needs
 
--- src/lib.rt:86:9
-same-length-6 : tie.Need-same-length-6
-same-length-6 c = search needs
-
--- src/lib.rt:86:9
 returns : tie.Need-returns
-returns c = let s = c .before .before .before .before .before .before .before .before .before .before .before .before .before .before .before .before .before .before .before .before .before .before .before .args in
-    ends-refused _ (listing-deep _ _ _ _ (sym (ap tooDeep (cells-taken (s .n) (s .work .now) (s .numbers .now))) ∙ sym (c .before .before .before .before .before .before .before .before .before .before .before .before .before .before .is-deep .ensures) ∙ c .before .before .before .before .before .before .before .before .before .before .before .before .before .if1 .taken)) (c .before .before .before .before .before .before .before .before .refuse .ensures .0) (c .before .before .before .before .before .before .before .before .refuse .ensures .1)
+returns c =
+    let s = c .before .before .before .before .before .before .before .before .before .before .before .before .before .before .before .before .before .before .before .args in
+    ends-refused _ (listing-deep _ _ _ _ (sym (ap tooDeep (cells-taken (s .n) (s .work .now) (s .numbers .now))) ∙ sym (c .before .before .before .before .before .before .before .before .before .before .before .is-deep .ensures) ∙ c .before .before .before .before .before .before .before .before .before .before .if1 .taken)) (c .before .before .before .before .before .before .refuse .ensures .0) (c .before .before .before .before .before .before .refuse .ensures .1)
 
--- src/lib.rt:88:9
 list-text-requires : tie.Need-list-text-requires
 list-text-requires c κs = search needs
 
--- src/lib.rt:90:9
 refuse-requires-2 : tie.Need-refuse-requires-2
 refuse-requires-2 c κs = search needs
 
--- src/lib.rt:90:9
+same-length-6 : tie.Need-same-length-6
+same-length-6 c = search needs
+
 same-length-7 : tie.Need-same-length-7
 same-length-7 c = search needs
 
--- src/lib.rt:90:9
 same-length-8 : tie.Need-same-length-8
 same-length-8 c = search needs
 
--- src/lib.rt:90:9
 same-length-9 : tie.Need-same-length-9
 same-length-9 c = search needs
 
--- src/lib.rt:90:9
 same-length-10 : tie.Need-same-length-10
 same-length-10 c = search needs
 
--- src/lib.rt:90:9
+returns-2 : tie.Need-returns-2
+returns-2 c =
+    let s = c .before .before .before .before .before .before .before .before .before .before .before .before .before .before .before .before .before .before .before .before .before .before .before .before .before .before .before .before .before .before .before .before .before .args in
+    let p = c .before .before .before .before .before .before .before .before .before .before .before .before .before .before .before .before .before .before .before .list-text in
+    let fine = sym (ap tooDeep (cells-taken (s .n) (s .work .now) (s .numbers .now))) ∙ sym (c .before .before .before .before .before .before .before .before .before .before .before .before .before .before .before .before .before .before .before .before .before .before .before .before .before .is-deep .ensures) ∙ c .before .before .before .before .before .before .before .before .before .before .before .before .before .before .before .before .before .before .before .before .before .before .before .before .if1 .left in
+    let lo = p .kept .1 .1 .1 .0 in
+    let lg = p .kept .1 .1 .1 .1 .0 in
+    ends-refused _ (listing-full _ _ _ _ fine _ _ _ _ (p .ensures) (omega (arith, lo, c .before .before .before .before .before .before .before .before .before .before .if2 .taken))) (c .before .before .before .before .before .before .refuse2 .ensures .0) (rw (lo, lg) at (c .before .before .before .before .before .before .refuse2 .ensures .1))
+
+zero8-requires : tie.Need-zero8-requires
+zero8-requires c κs = search needs
+
 same-length-11 : tie.Need-same-length-11
 same-length-11 c = search needs
 
--- src/lib.rt:90:9
 same-length-12 : tie.Need-same-length-12
 same-length-12 c = search needs
 
--- src/lib.rt:90:9
-returns-2 : tie.Need-returns-2
-returns-2 c = let s = c .before .before .before .before .before .before .before .before .before .before .before .before .before .before .before .before .before .before .before .before .before .before .before .before .before .before .before .before .before .before .before .before .before .before .before .before .before .args in
-    let p = c .before .before .before .before .before .before .before .before .before .before .before .before .before .before .before .before .before .before .before .before .before .before .list-text in
-    let fine = sym (ap tooDeep (cells-taken (s .n) (s .work .now) (s .numbers .now))) ∙ sym (c .before .before .before .before .before .before .before .before .before .before .before .before .before .before .before .before .before .before .before .before .before .before .before .before .before .before .before .before .is-deep .ensures) ∙ c .before .before .before .before .before .before .before .before .before .before .before .before .before .before .before .before .before .before .before .before .before .before .before .before .before .before .before .if1 .left in
-    let lo = p .kept .1 .1 .1 .0 in
-    let lg = p .kept .1 .1 .1 .1 .0 in
-    ends-refused _ (listing-full _ _ _ _ fine _ _ _ _ (p .ensures) (omega (arith, lo, c .before .before .before .before .before .before .before .before .before .before .before .before .before .if2 .taken))) (c .before .before .before .before .before .before .before .before .refuse2 .ensures .0) (rw (lo, lg) at (c .before .before .before .before .before .before .before .before .refuse2 .ensures .1))
-
--- src/lib.rt:94:5
-clear-behind-requires : tie.Need-clear-behind-requires
-clear-behind-requires c κs = search needs
-
--- src/lib.rt:72:1
 same-length-13 : tie.Need-same-length-13
 same-length-13 c = search needs
 
--- src/lib.rt:72:1
 same-length-14 : tie.Need-same-length-14
 same-length-14 c = search needs
 
--- src/lib.rt:72:1
 same-length-15 : tie.Need-same-length-15
 same-length-15 c = search needs
 
--- src/lib.rt:72:1
-same-length-16 : tie.Need-same-length-16
-same-length-16 c = search needs
-
--- src/lib.rt:72:1
-same-length-17 : tie.Need-same-length-17
-same-length-17 c = search needs
-
--- src/lib.rt:72:1
-same-length-18 : tie.Need-same-length-18
-same-length-18 c = search needs
-
--- src/lib.rt:72:1
 returns-3 : tie.Need-returns-3
-returns-3 c = let s = c .before .before .before .before .before .before .before .before .before .before .before .before .before .before .before .before .before .before .before .before .before .before .before .before .before .before .before .before .before .before .before .args in
-    let pre = c .before .before .before .before .before .before .before .before .before .before .before .before .before .before .before .before .before .before .before .before .before .before .before .before .before .before .before .before .before .before .before .pre in
-    let p = c .before .before .before .before .before .before .before .before .before .before .before .before .before .before .before .before .list-text in
-    let fine = sym (ap tooDeep (cells-taken (s .n) (s .work .now) (s .numbers .now))) ∙ sym (c .before .before .before .before .before .before .before .before .before .before .before .before .before .before .before .before .before .before .before .before .before .before .is-deep .ensures) ∙ c .before .before .before .before .before .before .before .before .before .before .before .before .before .before .before .before .before .before .before .before .before .if1 .left in
+returns-3 c =
+    let s = c .before .before .before .before .before .before .before .before .before .before .before .before .before .before .before .before .before .before .before .before .before .before .before .before .before .before .before .args in
+    let p = c .before .before .before .before .before .before .before .before .before .before .before .before .before .list-text in
+    let fine = sym (ap tooDeep (cells-taken (s .n) (s .work .now) (s .numbers .now))) ∙ sym (c .before .before .before .before .before .before .before .before .before .before .before .before .before .before .before .before .before .before .before .is-deep .ensures) ∙ c .before .before .before .before .before .before .before .before .before .before .before .before .before .before .before .before .before .before .if1 .left in
     let lo = p .kept .1 .1 .1 .0 in
-    listing-done _ _ _ _ fine _ _ _ _ (p .ensures) (omega (arith, lo, c .before .before .before .before .before .before .before .if2 .left)) (c .before .before .before .before .clear-behind .ensures .0 ∙ cleared-taken (5 * s .losses .losses) (s .records .now) _ (omega (arith, pre)) refl) (c .before .before .before .before .clear-behind .ensures .1 ∙ cleared-taken (s .losses .bytes) (s .loss-bytes .now) _ (omega (arith, pre)) refl)
+    listing-done _ _ _ _ fine _ _ _ _ (p .ensures) (omega (arith, lo, c .before .before .before .before .if2 .left)) (c .before .before .zero8 .ensures ∙ cleared-taken (s .losses .bytes) (s .loss-bytes .now) _ (c .before .before .before .before .before .before .before .before .before .before .before .before .before .before .before .before .before .before .before .before .before .before .before .before .before .before .before .pre .1) refl)
 
 pub write-lists-spec : {M : Type 1} → statement M
 write-lists-spec =
@@ -144,22 +105,19 @@ write-lists-spec =
     same-length-3
     same-length-4
     same-length-5
-    same-length-6
     returns
     list-text-requires
     refuse-requires-2
+    same-length-6
     same-length-7
     same-length-8
     same-length-9
     same-length-10
+    returns-2
+    zero8-requires
     same-length-11
     same-length-12
-    returns-2
-    clear-behind-requires
     same-length-13
     same-length-14
     same-length-15
-    same-length-16
-    same-length-17
-    same-length-18
     returns-3)

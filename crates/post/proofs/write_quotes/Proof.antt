@@ -1,102 +1,78 @@
 use borrow.Author.Needs.{needs}
 use native.Mathlib.Omega.{arith}
 use mathlib.Core.Path.{_≡_, refl, sym, ap, _∙_}
-use Prim.Native.Nat.{ℕ, suc, _+_, _-_, _≤_, _<_}
+use Prim.Native.Nat.{ℕ, suc, _+_, _-_, _*_, _≤_, _<_}
 use mathlib.Core.List.{List, [], _∷_, _++_}
 use lib.ListN.{length, getD}
-use lib.ListN.{take}
-use Rattle.text.specs.Cells.{cells}
-use Rattle.post.proofs.Calling.{ends-refused, ends-as, quotes-in, quoting-full, quoting-done, quoted-front}
+use Rattle.post.proofs.Calling.{ends-refused, ends-as, quoting-full, quoting-done, quoted-front}
 use Rattle.post.proofs.write_quotes.Statement.{statement}
 use Rattle.post.proofs.write_quotes.Tie as tie
 use Rattle.post.proofs.write_quotes.Reads as reads
 use Rattle.post.proofs.write_quotes.Lts as lts
-use Rattle.post.proofs.refuse.Reads as refuse-reads
-use Rattle.post.proofs.write_lists.Reads as write-lists-reads
-use Rattle.post_steps.proofs.quote.quote_text.Reads as quote-text-reads
 
--- src/lib.rt:112:9
 quote-text-requires : tie.Need-quote-text-requires
-quote-text-requires c κs = let pre = c .before .before .before .before .before .before .before .before .before .before .pre in ((pre .0 .0 .0, (pre .0 .0 .1 .0, pre .0 .0 .1 .1 .0)), pre .1)
+quote-text-requires c κs =
+    let pre = c .before .before .before .before .before .before .before .before .before .pre in ((pre .0 .0 .0, (pre .0 .0 .1 .0, pre .0 .0 .1 .1 .0)), pre .1)
 
--- src/lib.rt:114:9
 refuse-requires : tie.Need-refuse-requires
 refuse-requires c κs = search needs
 
--- src/lib.rt:114:9
 same-length : tie.Need-same-length
 same-length c = search needs
 
--- src/lib.rt:114:9
 same-length-2 : tie.Need-same-length-2
 same-length-2 c = search needs
 
--- src/lib.rt:114:9
 same-length-3 : tie.Need-same-length-3
 same-length-3 c = search needs
 
--- src/lib.rt:114:9
 same-length-4 : tie.Need-same-length-4
 same-length-4 c = search needs
 
--- src/lib.rt:114:9
 same-length-5 : tie.Need-same-length-5
 same-length-5 c = search needs
 
--- src/lib.rt:114:9
-same-length-6 : tie.Need-same-length-6
-same-length-6 c = search needs
-
--- src/lib.rt:114:9
 returns : tie.Need-returns
-returns c = let p = c .before .before .before .before .before .before .before .before .before .before .before .before .before .before .before .before .before .before .before .before .before .before .quote-text in
+returns c =
+    let p = c .before .before .before .before .before .before .before .before .before .before .before .before .before .before .before .before .before .before .before .quote-text in
     let lo = p .kept .1 .1 .1 .0 in
     let lg = p .kept .1 .1 .1 .1 .0 in
-    ends-refused _ (quoting-full _ _ _ _ _ _ _ (p .ensures) (omega (arith, lo, c .before .before .before .before .before .before .before .before .before .before .before .before .before .if1 .taken))) (c .before .before .before .before .before .before .before .before .refuse .ensures .0) (rw (lo, lg) at (c .before .before .before .before .before .before .before .before .refuse .ensures .1))
+    ends-refused _ (quoting-full _ _ _ _ _ _ _ (p .ensures) (omega (arith, lo, c .before .before .before .before .before .before .before .before .before .before .if1 .taken))) (c .before .before .before .before .before .before .refuse .ensures .0) (rw (lo, lg) at (c .before .before .before .before .before .before .refuse .ensures .1))
 
--- src/lib.rt:116:5
 write-lists-requires : tie.Need-write-lists-requires
-write-lists-requires c κs = let pre = c .before .before .before .before .before .before .before .before .before .before .before .before .before .before .before .before .before .before .before .before .before .before .before .before .before .before .pre in
-    let p = c .before .before .before .before .before .before .before .before .before .before .before .before .before .before .before .quote-text in
+write-lists-requires c κs =
+    let pre = c .before .before .before .before .before .before .before .before .before .before .before .before .before .before .before .before .before .before .before .before .before .before .before .before .pre in
+    let p = c .before .before .before .before .before .before .before .before .before .before .before .before .before .before .quote-text in
     let lw = p .kept .1 .0 in
     let ln = p .kept .1 .1 .0 in
     let lo = p .kept .1 .1 .1 .0 in
     let lg = p .kept .1 .1 .1 .1 .0 in
-    let near = c .before .before .before .before .before .before .if1 .left in
-    ((((omega (arith, lo, near)), (omega (arith, pre, lo), omega (arith, pre, lo, lg))), (omega (arith, pre, lo, lw), (omega (arith, pre, lo, ln), omega (arith, pre, ln)))), pre .0 .1)
+    let near = c .before .before .before .before .before .if1 .left in
+    (((omega (arith, lo, near), (omega (arith, pre, lo), omega (arith, pre, lo, lg))), (omega (arith, pre, lo, lw), (omega (arith, pre, lo, ln), omega (arith, pre, ln)))), pre .0 .1)
 
--- src/lib.rt:99:1
+same-length-6 : tie.Need-same-length-6
+same-length-6 c = search needs
+
 same-length-7 : tie.Need-same-length-7
 same-length-7 c = search needs
 
--- src/lib.rt:99:1
 same-length-8 : tie.Need-same-length-8
 same-length-8 c = search needs
 
--- src/lib.rt:99:1
 same-length-9 : tie.Need-same-length-9
 same-length-9 c = search needs
 
--- src/lib.rt:99:1
 same-length-10 : tie.Need-same-length-10
 same-length-10 c = search needs
 
--- src/lib.rt:99:1
-same-length-11 : tie.Need-same-length-11
-same-length-11 c = search needs
-
--- src/lib.rt:99:1
-same-length-12 : tie.Need-same-length-12
-same-length-12 c = search needs
-
--- src/lib.rt:99:1
 returns-2 : tie.Need-returns-2
-returns-2 c = let p = c .before .before .before .before .before .before .before .before .before .before .before .before .before .before .before .before .before .before .before .before .before .before .before .before .before .before .before .before .quote-text in
+returns-2 c =
+    let p = c .before .before .before .before .before .before .before .before .before .before .before .before .before .before .before .before .before .before .before .before .before .before .before .before .before .quote-text in
     let lo = p .kept .1 .1 .1 .0 in
     let lg = p .kept .1 .1 .1 .1 .0 in
-    let near = c .before .before .before .before .before .before .before .before .before .before .before .before .before .before .before .before .before .before .before .if1 .left in
+    let near = c .before .before .before .before .before .before .before .before .before .before .before .before .before .before .before .before .if1 .left in
     let e = quoted-front _ _ 0 0 _ _ _ (p .ensures) (omega (arith, lo, near)) in
-    ends-as (rw (e, lo, lg) at (c .before .before .before .before .before .before .before .before .before .before .before .before .write-lists .ensures)) (quoting-done _ _ _ _ _ _ _ (p .ensures) (omega (arith, lo, near)))
+    ends-as (rw (e, lo, lg) at (c .before .before .before .before .before .before .before .before .before .before .write-lists .ensures)) (quoting-done _ _ _ _ _ _ _ (p .ensures) (omega (arith, lo, near)))
 
 pub write-quotes-spec : {M : Type 1} → statement M
 write-quotes-spec =
@@ -109,13 +85,11 @@ write-quotes-spec =
     same-length-3
     same-length-4
     same-length-5
-    same-length-6
     returns
     write-lists-requires
+    same-length-6
     same-length-7
     same-length-8
     same-length-9
     same-length-10
-    same-length-11
-    same-length-12
     returns-2)

@@ -6,7 +6,6 @@ use mathlib.Core.List.{List, [], _∷_, _++_}
 use lib.ListN.{length, getD}
 use Rattle.quote_blocks.specs.Quotes.{tooDeep}
 use Rattle.quotes.proofs.Conversion.{source-taken, pass-up, written-full, written-done}
-use Rattle.text.proofs.Copying.{length-cellsOf}
 use Rattle.quotes.proofs.write_quotes.Statement.{statement}
 use Rattle.quotes.proofs.write_quotes.Tie as tie
 use Rattle.quotes.proofs.write_quotes.Reads as reads
@@ -17,96 +16,96 @@ use Rattle.quotes.proofs.refuse.Reads as refuse-reads
 use Rattle.text.proofs.blank.number.Reads as number-reads
 use Rattle.text.proofs.source.set_source.Reads as set-source-reads
 
+-- src/lib.rt:127:15
 add-end : tie.Need-add-end
 add-end c = search needs
 
+-- src/lib.rt:128:5
 number-requires : tie.Need-number-requires
-number-requires c κs =
-    (c .before .before .before .before .before .before .before .before .pre .0 .0, omega (arith, c .before .before .before .before .before .before .before .before .pre .1 .0 .1))
+number-requires c κs = search needs
 
+-- src/lib.rt:129:5
 set-source-requires : tie.Need-set-source-requires
-set-source-requires c κs =
-    omega (arith, c .before .before .before .before .before .before .before .before .before .before .before .before .pre .1 .0 .0)
+set-source-requires c κs = search needs
 
+-- src/lib.rt:130:9
 quote-pass-requires : tie.Need-quote-pass-requires
 quote-pass-requires c κs =
-    let pre = c .before .before .before .before .before .before .before .before .before .before .before .before .before .before .before .before .before .before .before .pre in
+    let pre = c .before .before .before .before .before .before .before .before .before .before .before .before .before .before .before .before .before .before .pre in
     let lw = c .before .before .before .before .before .before .set-source .kept .1 .0 in
     let ln = c .before .before .before .before .before .before .before .before .before .before .number .kept .1 .0 in
-    (((omega arith, omega arith), ((omega (arith, pre .1 .0 .0, lw), (omega (arith, pre .1 .0 .1, ln), omega (arith, pre .0))), (pre .0 .1 .1, omega arith))), ap tooDeep (source-taken (c .before .before .before .before .before .before .before .before .before .before .before .before .before .before .before .before .before .before .before .args .text .now) _ _ _ refl (c .before .before .before .before .before .before .set-source .ensures) (c .before .before .before .before .before .before .before .before .before .before .number .ensures)) ∙ pre .1 .1 .0)
+    (((omega arith, omega arith), ((omega (arith, pre .1 .0 .0, lw), (omega (arith, pre .1 .0 .1, ln), omega (arith, pre .0))), (pre .0 .1 .1, omega arith))), ap tooDeep (source-taken (c .before .before .before .before .before .before .before .before .before .before .before .before .before .before .before .before .before .before .args .text .now) _ _ _ refl (c .before .before .before .before .before .before .set-source .ensures) (c .before .before .before .before .before .before .before .before .before .before .number .ensures)) ∙ pre .1 .1 .0)
 
+-- src/lib.rt:133:9
 refuse-requires : tie.Need-refuse-requires
-refuse-requires c κs =
-    tt
+refuse-requires c κs = search needs
 
+-- src/lib.rt:133:9
 same-length : tie.Need-same-length
-same-length c =
-    c .before .before .before .before .before .before .before .before .before .before .before .before .before .before .before .before .before .before .before .before .before .before .quote-pass .kept .0 ∙ c .before .before .before .before .before .before .before .before .before .before .before .before .before .before .before .before .before .before .before .before .before .before .before .before .before .before .before .before .before .set-source .kept .1 .0
+same-length c = search needs
 
+-- src/lib.rt:133:9
 same-length-2 : tie.Need-same-length-2
-same-length-2 c =
-    c .before .before .before .before .before .before .before .before .before .before .before .before .before .before .before .before .before .before .before .before .before .before .quote-pass .kept .1 .0 ∙ c .before .before .before .before .before .before .before .before .before .before .before .before .before .before .before .before .before .before .before .before .before .before .before .before .before .before .before .before .before .before .before .before .before .number .kept .1 .0
+same-length-2 c = search needs
 
+-- src/lib.rt:133:9
 same-length-3 : tie.Need-same-length-3
-same-length-3 c =
-    c .before .before .before .before .before .before .before .before .refuse .kept .1 .0 ∙ c .before .before .before .before .before .before .before .before .before .before .before .before .before .before .before .before .before .before .before .before .before .before .quote-pass .kept .1 .1 .1 .1 .1 .0
+same-length-3 c = search needs
 
+-- src/lib.rt:133:9
 same-length-4 : tie.Need-same-length-4
-same-length-4 c =
-    c .before .before .before .before .before .before .before .before .refuse .kept .1 .1 .0 ∙ c .before .before .before .before .before .before .before .before .before .before .before .before .before .before .before .before .before .before .before .before .before .before .quote-pass .kept .1 .1 .1 .1 .1 .1 .0
+same-length-4 c = search needs
 
+-- src/lib.rt:133:9
 same-length-5 : tie.Need-same-length-5
-same-length-5 c =
-    c .before .before .before .before .before .before .before .before .refuse .kept .1 .1 .1 .0
+same-length-5 c = search needs
 
-same-length-6 : tie.Need-same-length-6
-same-length-6 c =
-    c .before .before .before .before .before .before .before .before .refuse .kept .1 .1 .1 .1 .0
-
+-- src/lib.rt:133:9
 returns : tie.Need-returns
 returns c =
-    written-full (c .before .before .before .before .before .before .before .before .before .before .before .before .before .before .before .before .before .before .before .before .before .before .before .before .before .before .before .before .before .before .before .before .before .before .before .before .before .before .before .before .before .before .args .text .now) _ _ _ _ _ _ (source-taken (c .before .before .before .before .before .before .before .before .before .before .before .before .before .before .before .before .before .before .before .before .before .before .before .before .before .before .before .before .before .before .before .before .before .before .before .before .before .before .before .before .before .before .args .text .now) _ _ _ refl (c .before .before .before .before .before .before .before .before .before .before .before .before .before .before .before .before .before .before .before .before .before .before .before .before .before .before .before .before .before .set-source .ensures) (c .before .before .before .before .before .before .before .before .before .before .before .before .before .before .before .before .before .before .before .before .before .before .before .before .before .before .before .before .before .before .before .before .before .number .ensures)) refl (c .before .before .before .before .before .before .before .before .before .before .before .before .before .before .before .before .before .before .before .before .before .before .quote-pass .ensures .1)
-    (c .before .before .before .before .before .before .before .before .before .before .before .before .before .if1 .taken) (c .before .before .before .before .before .before .before .before .refuse .ensures .0) (rw (c .before .before .before .before .before .before .before .before .before .before .before .before .before .before .before .before .before .before .before .before .before .before .quote-pass .kept .1 .1 .1 .1 .1 .0, c .before .before .before .before .before .before .before .before .before .before .before .before .before .before .before .before .before .before .before .before .before .before .quote-pass .kept .1 .1 .1 .1 .1 .1 .0) at (c .before .before .before .before .before .before .before .before .refuse .ensures .1))
+    let q = c .before .before .before .before .before .before .before .before .before .before .before .before .before .before .before .before .before .before .before .quote-pass in
+    written-full (c .before .before .before .before .before .before .before .before .before .before .before .before .before .before .before .before .before .before .before .before .before .before .before .before .before .before .before .before .before .before .before .before .before .before .before .before .before .before .args .text .now) _ _ _ _ _ _ (source-taken (c .before .before .before .before .before .before .before .before .before .before .before .before .before .before .before .before .before .before .before .before .before .before .before .before .before .before .before .before .before .before .before .before .before .before .before .before .before .before .args .text .now) _ _ _ refl (c .before .before .before .before .before .before .before .before .before .before .before .before .before .before .before .before .before .before .before .before .before .before .before .before .before .before .set-source .ensures) (c .before .before .before .before .before .before .before .before .before .before .before .before .before .before .before .before .before .before .before .before .before .before .before .before .before .before .before .before .before .before .number .ensures)) refl (q .ensures .1)
+    (c .before .before .before .before .before .before .before .before .before .before .if1 .taken) (c .before .before .before .before .before .before .refuse .ensures .0) (rw (q .kept .1 .1 .1 .1 .1 .0, q .kept .1 .1 .1 .1 .1 .1 .0) at (c .before .before .before .before .before .before .refuse .ensures .1))
 
+-- src/lib.rt:135:5
 lay-result-requires : tie.Need-lay-result-requires
 lay-result-requires c κs =
-    let pre = c .before .before .before .before .before .before .before .before .before .before .before .before .before .before .before .before .before .before .before .before .before .before .before .before .before .before .before .before .before .before .before .before .before .before .before .pre in
-    let fit = c .before .before .before .before .before .before .if1 .left in
-    let up = pass-up (c .before .before .before .before .before .before .before .before .before .before .before .before .before .before .before .before .before .before .before .before .before .before .before .before .before .before .before .before .before .before .before .before .before .before .before .args .text .now) _ _ _ _ _ _ (source-taken (c .before .before .before .before .before .before .before .before .before .before .before .before .before .before .before .before .before .before .before .before .before .before .before .before .before .before .before .before .before .before .before .before .before .before .before .args .text .now) _ _ _ refl (c .before .before .before .before .before .before .before .before .before .before .before .before .before .before .before .before .before .before .before .before .before .before .set-source .ensures) (c .before .before .before .before .before .before .before .before .before .before .before .before .before .before .before .before .before .before .before .before .before .before .before .before .before .before .number .ensures)) refl (c .before .before .before .before .before .before .before .before .before .before .before .before .before .before .before .quote-pass .ensures .1) fit in
-    let lw = c .before .before .before .before .before .before .before .before .before .before .before .before .before .before .before .quote-pass .kept .0 ∙ c .before .before .before .before .before .before .before .before .before .before .before .before .before .before .before .before .before .before .before .before .before .before .set-source .kept .1 .0 in
-    let ln = c .before .before .before .before .before .before .before .before .before .before .before .before .before .before .before .quote-pass .kept .1 .0 ∙ c .before .before .before .before .before .before .before .before .before .before .before .before .before .before .before .before .before .before .before .before .before .before .before .before .before .before .number .kept .1 .0 in
-    let lo = c .before .before .before .before .before .before .before .before .before .before .before .before .before .before .before .quote-pass .kept .1 .1 .1 .1 .1 .0 in
-    let lg = c .before .before .before .before .before .before .before .before .before .before .before .before .before .before .before .quote-pass .kept .1 .1 .1 .1 .1 .1 .0 in
-    (((up, (omega (arith, fit, pre .1 .0 .0, lw), omega (arith, fit, pre .1 .0 .1, ln))), (omega (arith, fit, lo), omega (arith, fit, lg, pre .0 .1 .1))), (let n = length-cellsOf (c .before .before .before .before .before .before .before .before .before .before .before .before .before .before .before .before .before .before .before .before .before .before .before .before .before .before .before .before .before .before .before .before .before .before .before .args .text .now) in omega (arith, n, pre .0 .0, pre .1 .1 .1 .few)))
+    let pre = c .before .before .before .before .before .before .before .before .before .before .before .before .before .before .before .before .before .before .before .before .before .before .before .before .before .before .before .before .before .before .before .before .before .pre in
+    let q = c .before .before .before .before .before .before .before .before .before .before .before .before .before .before .quote-pass in
+    let fit = c .before .before .before .before .before .if1 .left in
+    let up = pass-up (c .before .before .before .before .before .before .before .before .before .before .before .before .before .before .before .before .before .before .before .before .before .before .before .before .before .before .before .before .before .before .before .before .before .args .text .now) _ _ _ _ _ _ (source-taken (c .before .before .before .before .before .before .before .before .before .before .before .before .before .before .before .before .before .before .before .before .before .before .before .before .before .before .before .before .before .before .before .before .before .args .text .now) _ _ _ refl (c .before .before .before .before .before .before .before .before .before .before .before .before .before .before .before .before .before .before .before .before .before .set-source .ensures) (c .before .before .before .before .before .before .before .before .before .before .before .before .before .before .before .before .before .before .before .before .before .before .before .before .before .number .ensures)) refl (q .ensures .1) fit in
+    let lw = q .kept .0 ∙ c .before .before .before .before .before .before .before .before .before .before .before .before .before .before .before .before .before .before .before .before .before .set-source .kept .1 .0 in
+    let ln = q .kept .1 .0 ∙ c .before .before .before .before .before .before .before .before .before .before .before .before .before .before .before .before .before .before .before .before .before .before .before .before .before .number .kept .1 .0 in
+    let lo = q .kept .1 .1 .1 .1 .1 .0 in
+    let lg = q .kept .1 .1 .1 .1 .1 .1 .0 in
+    ((up, (omega (arith, fit, pre .1 .0 .0, lw), omega (arith, fit, pre .1 .0 .1, ln))), (omega (arith, fit, lo), omega (arith, fit, lg, pre .0 .1 .1)))
 
+-- src/lib.rt:114:1
+same-length-6 : tie.Need-same-length-6
+same-length-6 c = search needs
+
+-- src/lib.rt:114:1
 same-length-7 : tie.Need-same-length-7
-same-length-7 c =
-    c .before .before .before .before .before .before .before .before .before .before .before .before .before .before .before .before .before .before .before .before .before .before .before .before .quote-pass .kept .0 ∙ c .before .before .before .before .before .before .before .before .before .before .before .before .before .before .before .before .before .before .before .before .before .before .before .before .before .before .before .before .before .before .before .set-source .kept .1 .0
+same-length-7 c = search needs
 
+-- src/lib.rt:114:1
 same-length-8 : tie.Need-same-length-8
-same-length-8 c =
-    c .before .before .before .before .before .before .before .before .before .before .before .before .before .before .before .before .before .before .before .before .before .before .before .before .quote-pass .kept .1 .0 ∙ c .before .before .before .before .before .before .before .before .before .before .before .before .before .before .before .before .before .before .before .before .before .before .before .before .before .before .before .before .before .before .before .before .before .before .before .number .kept .1 .0
+same-length-8 c = search needs
 
+-- src/lib.rt:114:1
 same-length-9 : tie.Need-same-length-9
-same-length-9 c =
-    c .before .before .before .before .before .before .before .before .lay-result .kept .1 .1 .1 .1 .1 .0 ∙ c .before .before .before .before .before .before .before .before .before .before .before .before .before .before .before .before .before .before .before .before .before .before .before .before .quote-pass .kept .1 .1 .1 .1 .1 .0
+same-length-9 c = search needs
 
+-- src/lib.rt:114:1
 same-length-10 : tie.Need-same-length-10
-same-length-10 c =
-    c .before .before .before .before .before .before .before .before .lay-result .kept .1 .1 .1 .1 .1 .1 .0 ∙ c .before .before .before .before .before .before .before .before .before .before .before .before .before .before .before .before .before .before .before .before .before .before .before .before .quote-pass .kept .1 .1 .1 .1 .1 .1 .0
+same-length-10 c = search needs
 
-same-length-11 : tie.Need-same-length-11
-same-length-11 c =
-    c .before .before .before .before .before .before .before .before .lay-result .kept .1 .1 .1 .1 .1 .1 .1 .0
-
-same-length-12 : tie.Need-same-length-12
-same-length-12 c =
-    c .before .before .before .before .before .before .before .before .lay-result .kept .1 .1 .1 .1 .1 .1 .1 .1 .0
-
+-- src/lib.rt:114:1
 returns-2 : tie.Need-returns-2
 returns-2 c =
-    written-done (c .before .before .before .before .before .before .before .before .before .before .before .before .before .before .before .before .before .before .before .before .before .before .before .before .before .before .before .before .before .before .before .before .before .before .before .before .before .before .before .before .before .before .before .before .args .text .now) _ _ _ _ _ _ (source-taken (c .before .before .before .before .before .before .before .before .before .before .before .before .before .before .before .before .before .before .before .before .before .before .before .before .before .before .before .before .before .before .before .before .before .before .before .before .before .before .before .before .before .before .before .before .args .text .now) _ _ _ refl (c .before .before .before .before .before .before .before .before .before .before .before .before .before .before .before .before .before .before .before .before .before .before .before .before .before .before .before .before .before .before .before .set-source .ensures) (c .before .before .before .before .before .before .before .before .before .before .before .before .before .before .before .before .before .before .before .before .before .before .before .before .before .before .before .before .before .before .before .before .before .before .before .number .ensures)) refl (c .before .before .before .before .before .before .before .before .before .before .before .before .before .before .before .before .before .before .before .before .before .before .before .before .quote-pass .ensures .1)
-    _ _ _ _ (c .before .before .before .before .before .before .before .before .before .before .before .before .before .before .before .if1 .left) (c .before .before .before .before .before .before .before .before .before .before .before .before .before .before .before .before .before .before .before .before .before .before .before .before .before .before .before .before .before .before .before .before .before .before .before .before .before .before .before .before .before .before .before .before .pre .1 .1 .1) refl refl (c .before .before .before .before .before .before .before .before .lay-result .ensures .0) (rw (c .before .before .before .before .before .before .before .before .before .before .before .before .before .before .before .before .before .before .before .before .before .before .before .before .quote-pass .kept .1 .1 .1 .1 .1 .0, c .before .before .before .before .before .before .before .before .before .before .before .before .before .before .before .before .before .before .before .before .before .before .before .before .quote-pass .kept .1 .1 .1 .1 .1 .1 .0) at (c .before .before .before .before .before .before .before .before .lay-result .ensures .1 .0)) (c .before .before .before .before .before .before .before .before .lay-result .ensures .1 .1 .0) (c .before .before .before .before .before .before .before .before .lay-result .ensures .1 .1 .1)
+    let q = c .before .before .before .before .before .before .before .before .before .before .before .before .before .before .before .before .before .before .before .before .before .quote-pass in
+    written-done (c .before .before .before .before .before .before .before .before .before .before .before .before .before .before .before .before .before .before .before .before .before .before .before .before .before .before .before .before .before .before .before .before .before .before .before .before .before .before .before .before .args .text .now) _ _ _ _ _ _ (source-taken (c .before .before .before .before .before .before .before .before .before .before .before .before .before .before .before .before .before .before .before .before .before .before .before .before .before .before .before .before .before .before .before .before .before .before .before .before .before .before .before .before .args .text .now) _ _ _ refl (c .before .before .before .before .before .before .before .before .before .before .before .before .before .before .before .before .before .before .before .before .before .before .before .before .before .before .before .before .set-source .ensures) (c .before .before .before .before .before .before .before .before .before .before .before .before .before .before .before .before .before .before .before .before .before .before .before .before .before .before .before .before .before .before .before .before .number .ensures)) refl (q .ensures .1)
+    _ _ _ (c .before .before .before .before .before .before .before .before .before .before .before .before .if1 .left) (c .before .before .before .before .before .before .before .before .before .before .before .before .before .before .before .before .before .before .before .before .before .before .before .before .before .before .before .before .before .before .before .before .before .before .before .before .before .before .before .before .pre .1 .1 .1) refl (c .before .before .before .before .before .before .lay-result .ensures .0) (rw (q .kept .1 .1 .1 .1 .1 .0, q .kept .1 .1 .1 .1 .1 .1 .0) at (c .before .before .before .before .before .before .lay-result .ensures .1 .0)) (c .before .before .before .before .before .before .lay-result .ensures .1 .1)
 
 pub write-quotes-spec : {M : Type 1} → statement M
 write-quotes-spec =
@@ -122,13 +121,11 @@ write-quotes-spec =
     same-length-3
     same-length-4
     same-length-5
-    same-length-6
     returns
     lay-result-requires
+    same-length-6
     same-length-7
     same-length-8
     same-length-9
     same-length-10
-    same-length-11
-    same-length-12
     returns-2)

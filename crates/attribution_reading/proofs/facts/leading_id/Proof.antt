@@ -11,22 +11,22 @@ use Rattle.attribution_reading.proofs.facts.leading_id.Reads as reads
 use Rattle.attribution_reading.proofs.facts.leading_id.Lts as lts
 use Rattle.attribution_reading.proofs.facts.is_leading.Reads as is-leading-reads
 use Rattle.attribution_reading.proofs.scan.first_at.Reads as first-at-reads
-use Rattle.attribution_reading.proofs.scan.scan_at.Reads as scan-at-reads
+use Rattle.attribution_reading.proofs.reader.read_part.Reads as read-part-reads
 
 first-at-requires : tie.Need-first-at-requires
 first-at-requires c κs = search needs
 
-scan-at-requires : tie.Need-scan-at-requires
-scan-at-requires c κs = (c .if1 .taken, c .before .first-at .ensures .begins (c .if1 .taken))
+read-part-requires : tie.Need-read-part-requires
+read-part-requires c κs = (c .if1 .taken, c .before .first-at .ensures .begins (c .if1 .taken))
 
 is-leading-requires : tie.Need-is-leading-requires
-is-leading-requires c κs = let h = c .scan-at .ensures in omega (arith, h .ends, h .inside)
+is-leading-requires c κs = let h = c .read-part .ensures in omega (arith, h .ends, h .inside)
 
 returns : tie.Need-returns
-returns c = let a = c .before .before .before .before .before .before .args in lead-found (a .s .now) _ (c .before .before .before .before .first-at .ensures) _ (c .before .before .scan-at .ensures) (sym (c .before .is-leading .ensures) ∙ c .if2 .taken)
+returns c = let a = c .before .before .before .before .before .before .args in lead-found (a .s .now) _ (c .before .before .before .before .first-at .ensures) _ (c .before .before .read-part .ensures) (sym (c .before .is-leading .ensures) ∙ c .if2 .taken)
 
 returns-2 : tie.Need-returns-2
-returns-2 c = let a = c .before .before .before .before .before .before .args in lead-other (a .s .now) _ (c .before .before .before .before .first-at .ensures) _ (c .before .before .scan-at .ensures) (sym (c .before .is-leading .ensures) ∙ c .if2 .left)
+returns-2 c = let a = c .before .before .before .before .before .before .args in lead-other (a .s .now) _ (c .before .before .before .before .first-at .ensures) _ (c .before .before .read-part .ensures) (sym (c .before .is-leading .ensures) ∙ c .if2 .left)
 
 returns-3 : tie.Need-returns-3
 returns-3 c = let a = c .before .before .before .args in lead-end (a .s .now) _ (c .before .first-at .ensures) (c .if1 .left)
@@ -34,4 +34,4 @@ returns-3 c = let a = c .before .before .before .args in lead-end (a .s .now) _ 
 pub leading-id-spec : {M : Type 1} → statement M
 leading-id-spec =
     tie.close
-    (tie.spec first-at-requires scan-at-requires is-leading-requires returns returns-2 returns-3)
+    (tie.spec first-at-requires read-part-requires is-leading-requires returns returns-2 returns-3)

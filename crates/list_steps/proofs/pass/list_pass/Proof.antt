@@ -54,11 +54,20 @@ part-tag-at-end-2 c = search needs
 tag-at-requires : tie.Need-tag-at-requires Inv-loop μ-loop
 tag-at-requires c κs = search needs
 
+sub-rest-of : tie.Need-sub-rest-of Inv-loop μ-loop
+sub-rest-of c = search needs
+
+part-rest-of-start : tie.Need-part-rest-of-start Inv-loop μ-loop
+part-rest-of-start c = search needs
+
+part-rest-of-end : tie.Need-part-rest-of-end Inv-loop μ-loop
+part-rest-of-end c = search needs
+
 rest-of-requires : tie.Need-rest-of-requires Inv-loop μ-loop
 rest-of-requires c κs = search needs
 
 step-requires : tie.Need-step-requires Inv-loop μ-loop
-step-requires c κs = let p = c .before .before .before .before .before .before .before .before .before .before .before .before .before .before .before .before .pre in let x = c .before .before .before .before .before .before .before .before .before .before .before .before .before .before .before .before .args in let l = c .before .before .before .before .before .before .before .before .before .before .before .loop in let v = l .inv in let n0 = v .0 in let lb = before-length (x .work .now) (x .numbers .now) (x .base) (x .end) (omega (arith, p .1 .0 .0)) (p .1 .1 .0) (omega (arith, p .1 .1 .1 .0)) in let s = turn-size _ _ _ _ _ (x .base) _ _ _ _ _ (l .i) _ (v .5) lb (p .1 .0 .0) (v .3) (omega (arith, n0 .0, p .1 .1 .0)) (omega (arith, n0 .1, p .1 .1 .1 .0)) (c .before .before .before .before .before .before .before .before .before .before .loop-test .taken) (p .0 .1 .0) _ (c .before .before .before .before .before .tag-at .ensures) in (running-ready _ _ _ _ _ (x .base) _ _ _ _ _ _ (v .5) lb (v .3) (omega (arith, n0 .0, p .1 .1 .0)) (omega (arith, n0 .1, p .1 .1 .1 .0)) (omega (arith, n0 .1, p .1 .1 .1 .1)) (omega (arith, v .4, v .1, v .2, p .0 .1 .1)), (omega (arith, s .0, p .0 .1 .0), (omega (arith, s .0, s .1, v .4, v .1, n0 .1, p .1 .1 .1 .0), (omega (arith, n0 .2, p .1 .0 .0), omega (arith, n0 .2, n0 .3, p .1 .0 .1)))))
+step-requires c κs = let p = c .before .before .before .before .before .before .before .before .before .before .before .before .before .before .before .before .before .before .pre in let x = c .before .before .before .before .before .before .before .before .before .before .before .before .before .before .before .before .before .before .args in let l = c .before .before .before .before .before .before .before .before .before .before .before .before .before .loop in let v = l .inv in let n0 = v .0 in let lb = before-length (x .work .now) (x .numbers .now) (x .base) (x .end) (omega (arith, p .1 .0 .0)) (p .1 .1 .0) (omega (arith, p .1 .1 .1 .0)) in let s = turn-size _ _ _ _ _ (x .base) _ _ _ _ _ (l .i) _ (v .5) lb (p .1 .0 .0) (v .3) (omega (arith, n0 .0, p .1 .1 .0)) (omega (arith, n0 .1, p .1 .1 .1 .0)) (c .before .before .before .before .before .before .before .before .before .before .before .before .loop-test .taken) (p .0 .1 .0) _ (c .before .before .before .before .before .before .before .tag-at .ensures) _ (c .before .before .before .before .rest-of .ensures) in (running-ready _ _ _ _ _ (x .base) _ _ _ _ _ _ (v .5) lb (v .3) (omega (arith, n0 .0, p .1 .1 .0)) (omega (arith, n0 .1, p .1 .1 .1 .0)) (omega (arith, n0 .1, p .1 .1 .1 .1)) (omega (arith, v .4, v .1, v .2, p .0 .1 .1)), ((omega (arith, s .0, p .0 .1 .0), s .1 .0), (omega (arith, s .0, s .1 .1, v .4, v .1, n0 .1, p .1 .1 .1 .0), (omega (arith, n0 .2, p .1 .0 .0), omega (arith, n0 .2, n0 .3, p .1 .0 .1)))))
 
 same-length : tie.Need-same-length Inv-loop μ-loop
 same-length c = search needs
@@ -73,19 +82,19 @@ same-length-4 : tie.Need-same-length-4 Inv-loop μ-loop
 same-length-4 c = search needs
 
 returns : tie.Need-returns Inv-loop μ-loop
-returns c = let p = c .before .before .before .before .before .before .before .before .before .before .before .before .before .before .before .before .before .before .before .before .before .before .before .before .before .before .pre in let x = c .before .before .before .before .before .before .before .before .before .before .before .before .before .before .before .before .before .before .before .before .before .before .before .before .before .before .args in let l = c .before .before .before .before .before .before .before .before .before .before .before .before .before .before .before .before .before .before .before .before .before .loop in let v = l .inv in let n0 = v .0 in let lb = before-length (x .work .now) (x .numbers .now) (x .base) (x .end) (omega (arith, p .1 .0 .0)) (p .1 .1 .0) (omega (arith, p .1 .1 .1 .0)) in passed-full _ _ _ _ _ _ _ (turn-over _ _ _ _ _ (x .base) _ _ _ _ _ (l .i) _ (v .5) lb (p .1 .0 .0) (v .3) (omega (arith, n0 .0, p .1 .1 .0)) (omega (arith, n0 .1, p .1 .1 .1 .0)) (c .before .before .before .before .before .before .before .before .before .before .before .before .before .before .before .before .before .before .before .before .loop-test .taken) (p .0 .1 .0) _ (c .before .before .before .before .before .before .before .before .before .before .before .before .before .before .before .tag-at .ensures) _ _ _ _ _ _ (c .before .before .before .before .before .before .before .before .before .step .ensures .0) (omega (arith, n0 .0, p .1 .1 .0)) (omega (arith, n0 .1, p .1 .1 .1 .0)) (c .if1 .taken)) (omega (arith, p .1 .1 .1 .0, p .1 .1 .1 .1))
+returns c = let p = c .before .before .before .before .before .before .before .before .before .before .before .before .before .before .before .before .before .before .before .before .before .before .before .before .before .before .before .before .pre in let x = c .before .before .before .before .before .before .before .before .before .before .before .before .before .before .before .before .before .before .before .before .before .before .before .before .before .before .before .before .args in let l = c .before .before .before .before .before .before .before .before .before .before .before .before .before .before .before .before .before .before .before .before .before .before .before .loop in let v = l .inv in let n0 = v .0 in let lb = before-length (x .work .now) (x .numbers .now) (x .base) (x .end) (omega (arith, p .1 .0 .0)) (p .1 .1 .0) (omega (arith, p .1 .1 .1 .0)) in passed-full _ _ _ _ _ _ _ (turn-over _ _ _ _ _ (x .base) _ _ _ _ _ (l .i) _ (v .5) lb (p .1 .0 .0) (v .3) (omega (arith, n0 .0, p .1 .1 .0)) (omega (arith, n0 .1, p .1 .1 .1 .0)) (c .before .before .before .before .before .before .before .before .before .before .before .before .before .before .before .before .before .before .before .before .before .before .loop-test .taken) (p .0 .1 .0) _ (c .before .before .before .before .before .before .before .before .before .before .before .before .before .before .before .before .before .tag-at .ensures) _ (c .before .before .before .before .before .before .before .before .before .before .before .before .before .before .rest-of .ensures) _ _ _ _ _ _ (c .before .before .before .before .before .before .before .before .before .step .ensures .0) (omega (arith, n0 .0, p .1 .1 .0)) (omega (arith, n0 .1, p .1 .1 .1 .0)) (c .if1 .taken)) (omega (arith, p .1 .1 .1 .0, p .1 .1 .1 .1))
 
 add-i : tie.Need-add-i Inv-loop μ-loop
-add-i c = let p = c .before .before .before .before .before .before .before .before .before .before .before .before .before .before .before .before .before .before .before .before .before .before .before .before .before .before .pre in let x = c .before .before .before .before .before .before .before .before .before .before .before .before .before .before .before .before .before .before .before .before .before .before .before .before .before .before .args in let l = c .before .before .before .before .before .before .before .before .before .before .before .before .before .before .before .before .before .before .before .before .before .loop in let v = l .inv in let n0 = v .0 in let lb = before-length (x .work .now) (x .numbers .now) (x .base) (x .end) (omega (arith, p .1 .0 .0)) (p .1 .1 .0) (omega (arith, p .1 .1 .1 .0)) in let s = turn-size _ _ _ _ _ (x .base) _ _ _ _ _ (l .i) _ (v .5) lb (p .1 .0 .0) (v .3) (omega (arith, n0 .0, p .1 .1 .0)) (omega (arith, n0 .1, p .1 .1 .1 .0)) (c .before .before .before .before .before .before .before .before .before .before .before .before .before .before .before .before .before .before .before .before .loop-test .taken) (p .0 .1 .0) _ (c .before .before .before .before .before .before .before .before .before .before .before .before .before .before .before .tag-at .ensures) in omega (arith, s .0, c .before .before .before .before .before .before .before .before .before .before .before .before .before .before .rest-of .ensures, p .0 .1 .0, p .1 .0 .0, p .1 .1 .1 .0, p .1 .1 .1 .1)
+add-i c = let p = c .before .before .before .before .before .before .before .before .before .before .before .before .before .before .before .before .before .before .before .before .before .before .before .before .before .before .before .before .pre in let x = c .before .before .before .before .before .before .before .before .before .before .before .before .before .before .before .before .before .before .before .before .before .before .before .before .before .before .before .before .args in let l = c .before .before .before .before .before .before .before .before .before .before .before .before .before .before .before .before .before .before .before .before .before .before .before .loop in let v = l .inv in let n0 = v .0 in let lb = before-length (x .work .now) (x .numbers .now) (x .base) (x .end) (omega (arith, p .1 .0 .0)) (p .1 .1 .0) (omega (arith, p .1 .1 .1 .0)) in let s = turn-size _ _ _ _ _ (x .base) _ _ _ _ _ (l .i) _ (v .5) lb (p .1 .0 .0) (v .3) (omega (arith, n0 .0, p .1 .1 .0)) (omega (arith, n0 .1, p .1 .1 .1 .0)) (c .before .before .before .before .before .before .before .before .before .before .before .before .before .before .before .before .before .before .before .before .before .before .loop-test .taken) (p .0 .1 .0) _ (c .before .before .before .before .before .before .before .before .before .before .before .before .before .before .before .before .before .tag-at .ensures) _ (c .before .before .before .before .before .before .before .before .before .before .before .before .before .before .rest-of .ensures) in omega (arith, s .0, p .0 .1 .0, p .1 .0 .0, p .1 .1 .1 .0, p .1 .1 .1 .1)
 
 add-i-2 : tie.Need-add-i-2 Inv-loop μ-loop
-add-i-2 c = let p = c .before .before .before .before .before .before .before .before .before .before .before .before .before .before .before .before .before .before .before .before .before .before .before .before .before .before .pre in let x = c .before .before .before .before .before .before .before .before .before .before .before .before .before .before .before .before .before .before .before .before .before .before .before .before .before .before .args in let l = c .before .before .before .before .before .before .before .before .before .before .before .before .before .before .before .before .before .before .before .before .before .loop in let v = l .inv in let n0 = v .0 in let lb = before-length (x .work .now) (x .numbers .now) (x .base) (x .end) (omega (arith, p .1 .0 .0)) (p .1 .1 .0) (omega (arith, p .1 .1 .1 .0)) in let s = turn-size _ _ _ _ _ (x .base) _ _ _ _ _ (l .i) _ (v .5) lb (p .1 .0 .0) (v .3) (omega (arith, n0 .0, p .1 .1 .0)) (omega (arith, n0 .1, p .1 .1 .1 .0)) (c .before .before .before .before .before .before .before .before .before .before .before .before .before .before .before .before .before .before .before .before .loop-test .taken) (p .0 .1 .0) _ (c .before .before .before .before .before .before .before .before .before .before .before .before .before .before .before .tag-at .ensures) in omega (arith, s .0, c .before .before .before .before .before .before .before .before .before .before .before .before .before .before .rest-of .ensures, p .0 .1 .0, p .1 .0 .0, p .1 .1 .1 .0, p .1 .1 .1 .1)
+add-i-2 c = let p = c .before .before .before .before .before .before .before .before .before .before .before .before .before .before .before .before .before .before .before .before .before .before .before .before .before .before .before .before .pre in let x = c .before .before .before .before .before .before .before .before .before .before .before .before .before .before .before .before .before .before .before .before .before .before .before .before .before .before .before .before .args in let l = c .before .before .before .before .before .before .before .before .before .before .before .before .before .before .before .before .before .before .before .before .before .before .before .loop in let v = l .inv in let n0 = v .0 in let lb = before-length (x .work .now) (x .numbers .now) (x .base) (x .end) (omega (arith, p .1 .0 .0)) (p .1 .1 .0) (omega (arith, p .1 .1 .1 .0)) in let s = turn-size _ _ _ _ _ (x .base) _ _ _ _ _ (l .i) _ (v .5) lb (p .1 .0 .0) (v .3) (omega (arith, n0 .0, p .1 .1 .0)) (omega (arith, n0 .1, p .1 .1 .1 .0)) (c .before .before .before .before .before .before .before .before .before .before .before .before .before .before .before .before .before .before .before .before .before .before .loop-test .taken) (p .0 .1 .0) _ (c .before .before .before .before .before .before .before .before .before .before .before .before .before .before .before .before .before .tag-at .ensures) _ (c .before .before .before .before .before .before .before .before .before .before .before .before .before .before .rest-of .ensures) in omega (arith, s .0, p .0 .1 .0, p .1 .0 .0, p .1 .1 .1 .0, p .1 .1 .1 .1)
 
 loop-less : tie.Need-loop-less Inv-loop μ-loop
-loop-less c = let p = c .before .before .before .before .before .before .before .before .before .before .before .before .before .before .before .before .before .before .before .before .before .before .before .before .before .before .pre in let x = c .before .before .before .before .before .before .before .before .before .before .before .before .before .before .before .before .before .before .before .before .before .before .before .before .before .before .args in let l = c .before .before .before .before .before .before .before .before .before .before .before .before .before .before .before .before .before .before .before .before .before .loop in let v = l .inv in let n0 = v .0 in let lb = before-length (x .work .now) (x .numbers .now) (x .base) (x .end) (omega (arith, p .1 .0 .0)) (p .1 .1 .0) (omega (arith, p .1 .1 .1 .0)) in let s = turn-size _ _ _ _ _ (x .base) _ _ _ _ _ (l .i) _ (v .5) lb (p .1 .0 .0) (v .3) (omega (arith, n0 .0, p .1 .1 .0)) (omega (arith, n0 .1, p .1 .1 .1 .0)) (c .before .before .before .before .before .before .before .before .before .before .before .before .before .before .before .before .before .before .before .before .loop-test .taken) (p .0 .1 .0) _ (c .before .before .before .before .before .before .before .before .before .before .before .before .before .before .before .tag-at .ensures) in omega (arith, s .0, c .before .before .before .before .before .before .before .before .before .before .before .before .before .before .before .before .before .before .before .before .loop-test .taken)
+loop-less c = let p = c .before .before .before .before .before .before .before .before .before .before .before .before .before .before .before .before .before .before .before .before .before .before .before .before .before .before .before .before .pre in let x = c .before .before .before .before .before .before .before .before .before .before .before .before .before .before .before .before .before .before .before .before .before .before .before .before .before .before .before .before .args in let l = c .before .before .before .before .before .before .before .before .before .before .before .before .before .before .before .before .before .before .before .before .before .before .before .loop in let v = l .inv in let n0 = v .0 in let lb = before-length (x .work .now) (x .numbers .now) (x .base) (x .end) (omega (arith, p .1 .0 .0)) (p .1 .1 .0) (omega (arith, p .1 .1 .1 .0)) in let s = turn-size _ _ _ _ _ (x .base) _ _ _ _ _ (l .i) _ (v .5) lb (p .1 .0 .0) (v .3) (omega (arith, n0 .0, p .1 .1 .0)) (omega (arith, n0 .1, p .1 .1 .1 .0)) (c .before .before .before .before .before .before .before .before .before .before .before .before .before .before .before .before .before .before .before .before .before .before .loop-test .taken) (p .0 .1 .0) _ (c .before .before .before .before .before .before .before .before .before .before .before .before .before .before .before .before .before .tag-at .ensures) _ (c .before .before .before .before .before .before .before .before .before .before .before .before .before .before .rest-of .ensures) in omega (arith, s .0, c .before .before .before .before .before .before .before .before .before .before .before .before .before .before .before .before .before .before .before .before .before .before .loop-test .taken)
 
 loop-again : tie.Need-loop-again Inv-loop μ-loop
-loop-again c = let p = c .before .before .before .before .before .before .before .before .before .before .before .before .before .before .before .before .before .before .before .before .before .before .before .before .before .before .pre in let x = c .before .before .before .before .before .before .before .before .before .before .before .before .before .before .before .before .before .before .before .before .before .before .before .before .before .before .args in let l = c .before .before .before .before .before .before .before .before .before .before .before .before .before .before .before .before .before .before .before .before .before .loop in let v = l .inv in let n0 = v .0 in let lb = before-length (x .work .now) (x .numbers .now) (x .base) (x .end) (omega (arith, p .1 .0 .0)) (p .1 .1 .0) (omega (arith, p .1 .1 .1 .0)) in let s = turn-size _ _ _ _ _ (x .base) _ _ _ _ _ (l .i) _ (v .5) lb (p .1 .0 .0) (v .3) (omega (arith, n0 .0, p .1 .1 .0)) (omega (arith, n0 .1, p .1 .1 .1 .0)) (c .before .before .before .before .before .before .before .before .before .before .before .before .before .before .before .before .before .before .before .before .loop-test .taken) (p .0 .1 .0) _ (c .before .before .before .before .before .before .before .before .before .before .before .before .before .before .before .tag-at .ensures) in let r = c .before .before .before .before .before .before .before .before .before .before .before .before .before .before .rest-of .ensures in ((search needs, search needs, search needs, search needs), omega (arith, v .1), omega (arith, s .0, r), omega (arith, c .if1 .left), omega (arith, v .4, c .before .before .before .before .before .before .before .before .before .step .ensures .1, s .1, r), rw r (turn-goes _ _ _ _ _ (x .base) _ _ _ _ _ (l .i) _ (v .5) lb (p .1 .0 .0) (v .3) (omega (arith, n0 .0, p .1 .1 .0)) (omega (arith, n0 .1, p .1 .1 .1 .0)) (c .before .before .before .before .before .before .before .before .before .before .before .before .before .before .before .before .before .before .before .before .loop-test .taken) (p .0 .1 .0) _ (c .before .before .before .before .before .before .before .before .before .before .before .before .before .before .before .tag-at .ensures) _ _ _ _ _ _ (c .before .before .before .before .before .before .before .before .before .step .ensures .0)))
+loop-again c = let p = c .before .before .before .before .before .before .before .before .before .before .before .before .before .before .before .before .before .before .before .before .before .before .before .before .before .before .before .before .pre in let x = c .before .before .before .before .before .before .before .before .before .before .before .before .before .before .before .before .before .before .before .before .before .before .before .before .before .before .before .before .args in let l = c .before .before .before .before .before .before .before .before .before .before .before .before .before .before .before .before .before .before .before .before .before .before .before .loop in let v = l .inv in let n0 = v .0 in let lb = before-length (x .work .now) (x .numbers .now) (x .base) (x .end) (omega (arith, p .1 .0 .0)) (p .1 .1 .0) (omega (arith, p .1 .1 .1 .0)) in let s = turn-size _ _ _ _ _ (x .base) _ _ _ _ _ (l .i) _ (v .5) lb (p .1 .0 .0) (v .3) (omega (arith, n0 .0, p .1 .1 .0)) (omega (arith, n0 .1, p .1 .1 .1 .0)) (c .before .before .before .before .before .before .before .before .before .before .before .before .before .before .before .before .before .before .before .before .before .before .loop-test .taken) (p .0 .1 .0) _ (c .before .before .before .before .before .before .before .before .before .before .before .before .before .before .before .before .before .tag-at .ensures) _ (c .before .before .before .before .before .before .before .before .before .before .before .before .before .before .rest-of .ensures) in ((search needs, search needs, search needs, search needs), omega (arith, v .1), omega (arith, s .0), omega (arith, c .if1 .left), omega (arith, v .4, c .before .before .before .before .before .before .before .before .before .step .ensures .1, s .1 .1), (turn-goes _ _ _ _ _ (x .base) _ _ _ _ _ (l .i) _ (v .5) lb (p .1 .0 .0) (v .3) (omega (arith, n0 .0, p .1 .1 .0)) (omega (arith, n0 .1, p .1 .1 .1 .0)) (c .before .before .before .before .before .before .before .before .before .before .before .before .before .before .before .before .before .before .before .before .before .before .loop-test .taken) (p .0 .1 .0) _ (c .before .before .before .before .before .before .before .before .before .before .before .before .before .before .before .before .before .tag-at .ensures) _ (c .before .before .before .before .before .before .before .before .before .before .before .before .before .before .rest-of .ensures) _ _ _ _ _ _ (c .before .before .before .before .before .before .before .before .before .step .ensures .0)))
 
 finish-lists-requires : tie.Need-finish-lists-requires Inv-loop μ-loop
 finish-lists-requires c κs = let p = c .before .before .before .before .before .before .before .before .before .before .pre in let x = c .before .before .before .before .before .before .before .before .before .before .args in let l = c .before .before .before .before .before .loop in let v = l .inv in let n0 = v .0 in let lb = before-length (x .work .now) (x .numbers .now) (x .base) (x .end) (omega (arith, p .1 .0 .0)) (p .1 .1 .0) (omega (arith, p .1 .1 .1 .0)) in (running-ready _ _ _ _ _ (x .base) _ _ _ _ _ _ (v .5) lb (v .3) (omega (arith, n0 .0, p .1 .1 .0)) (omega (arith, n0 .1, p .1 .1 .1 .0)) (omega (arith, n0 .1, p .1 .1 .1 .1)) (omega (arith, v .4, v .1, v .2, p .0 .1 .1)), (omega (arith, n0 .2, p .1 .0 .0), omega (arith, n0 .2, n0 .3, p .1 .0 .1)))
@@ -120,6 +129,9 @@ list-pass-spec =
     part-tag-at-start-2
     part-tag-at-end-2
     tag-at-requires
+    sub-rest-of
+    part-rest-of-start
+    part-rest-of-end
     rest-of-requires
     step-requires
     same-length

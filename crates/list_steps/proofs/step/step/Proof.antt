@@ -25,19 +25,22 @@ enum-told : tie.Need-enum-told
 enum-told c = search needs
 
 start-item-requires : tie.Need-start-item-requires
-start-item-requires c κs = let p = c .before .before .before .before .before .before .before .before .pre in let e = c .before .before .enum-told .given .1 in (p .0, (size-of _ _ e _ _ 0 0 (p .1 .0), room-of _ _ e 0 0 _ _ (p .1 .1 .0)))
+start-item-requires c κs = let p = c .before .before .before .before .before .before .before .before .pre in let e = c .before .before .enum-told .given .1 in (p .0, (size-of _ _ e _ _ 0 0 (omega (arith, p .1 .0 .0, p .1 .0 .1)), room-of _ _ e 0 0 _ _ (p .1 .1 .0)))
 
 enum-told-2 : tie.Need-enum-told-2
 enum-told-2 c = search needs
 
 end-list-requires : tie.Need-end-list-requires
-end-list-requires c κs = let p = c .before .before .before .before .before .before .before .before .before .before .pre in let e = c .before .before .before .before .enum-told2 .given .1 in (p .0, (size-of _ _ e _ _ 0 0 (p .1 .0), p .1 .1 .1))
+end-list-requires c κs = let p = c .before .before .before .before .before .before .before .before .before .before .pre in let e = c .before .before .before .before .enum-told2 .given .1 in (p .0, (size-of _ _ e _ _ 0 0 (omega (arith, p .1 .0 .0, p .1 .0 .1)), p .1 .1 .1))
 
 enum-told-3 : tie.Need-enum-told-3
 enum-told-3 c = search needs
 
+add-keep : tie.Need-add-keep
+add-keep c = search needs
+
 keep-requires : tie.Need-keep-requires
-keep-requires c κs = let p = c .before .before .before .before .before .before .before .before .pre in let e = c .before .before .enum-told3 .given .1 in (p .0, size-of _ _ e _ _ 0 0 (p .1 .0))
+keep-requires c κs = search needs
 
 same-length : tie.Need-same-length
 same-length c = search needs
@@ -89,6 +92,7 @@ step-spec =
     enum-told-2
     end-list-requires
     enum-told-3
+    add-keep
     keep-requires
     same-length
     returns

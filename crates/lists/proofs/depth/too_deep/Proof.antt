@@ -50,6 +50,15 @@ part-tag-at-end-2 c = search needs
 tag-at-requires : tie.Need-tag-at-requires Inv-loop μ-loop
 tag-at-requires c κs = search needs
 
+sub-rest-of : tie.Need-sub-rest-of Inv-loop μ-loop
+sub-rest-of c = search needs
+
+part-rest-of-start : tie.Need-part-rest-of-start Inv-loop μ-loop
+part-rest-of-start c = search needs
+
+part-rest-of-end : tie.Need-part-rest-of-end Inv-loop μ-loop
+part-rest-of-end c = search needs
+
 rest-of-requires : tie.Need-rest-of-requires Inv-loop μ-loop
 rest-of-requires c κs = search needs
 
@@ -57,19 +66,19 @@ depth-after-requires : tie.Need-depth-after-requires Inv-loop μ-loop
 depth-after-requires c κs = search needs
 
 returns : tie.Need-returns Inv-loop μ-loop
-returns c = let v = c .before .before .before .before .before .before .before .loop .inv in sym (v .3 ∙ depth-over _ _ (c .before .before .before .before .before .before .before .before .before .before .pre) (c .before .before .before .before .before .before .before .loop .i) _ (c .before .before .before .before .before .before .loop-test .taken) _ (c .before .before .before .tag-at .ensures) (v .2) (omega (arith, c .if1 .taken, c .before .depth-after .ensures)))
+returns c = let v = c .before .before .before .before .before .before .before .before .loop .inv in sym (v .3 ∙ depth-over _ _ (c .before .before .before .before .before .before .before .before .before .before .before .pre) (c .before .before .before .before .before .before .before .before .loop .i) _ (c .before .before .before .before .before .before .before .loop-test .taken) _ (c .before .before .before .before .tag-at .ensures) _ (c .before .before .rest-of .ensures) (v .2) (omega (arith, c .if1 .taken, c .before .depth-after .ensures)))
 
 add-i : tie.Need-add-i Inv-loop μ-loop
-add-i c = let s = depth-size (c .before .before .before .before .before .before .before .before .before .before .args .src .now) (c .before .before .before .before .before .before .before .before .before .before .args .from .now) (c .before .before .before .before .before .before .before .before .before .before .pre) (c .before .before .before .before .before .before .before .loop .i) 0 (c .before .before .before .before .before .before .loop-test .taken) (c .before .before .before .tag-at .result) (c .before .before .before .tag-at .ensures) in omega (arith, s, c .before .before .rest-of .ensures)
+add-i c = let s = depth-size (c .before .before .before .before .before .before .before .before .before .before .before .args .src .now) (c .before .before .before .before .before .before .before .before .before .before .before .args .from .now) (c .before .before .before .before .before .before .before .before .before .before .before .pre) (c .before .before .before .before .before .before .before .before .loop .i) 0 (c .before .before .before .before .before .before .before .loop-test .taken) (c .before .before .before .before .tag-at .result) (c .before .before .before .before .tag-at .ensures) (c .before .before .rest-of .result) (c .before .before .rest-of .ensures) in omega (arith, s)
 
 add-i-2 : tie.Need-add-i-2 Inv-loop μ-loop
-add-i-2 c = let s = depth-size (c .before .before .before .before .before .before .before .before .before .before .args .src .now) (c .before .before .before .before .before .before .before .before .before .before .args .from .now) (c .before .before .before .before .before .before .before .before .before .before .pre) (c .before .before .before .before .before .before .before .loop .i) 0 (c .before .before .before .before .before .before .loop-test .taken) (c .before .before .before .tag-at .result) (c .before .before .before .tag-at .ensures) in omega (arith, s, c .before .before .rest-of .ensures)
+add-i-2 c = let s = depth-size (c .before .before .before .before .before .before .before .before .before .before .before .args .src .now) (c .before .before .before .before .before .before .before .before .before .before .before .args .from .now) (c .before .before .before .before .before .before .before .before .before .before .before .pre) (c .before .before .before .before .before .before .before .before .loop .i) 0 (c .before .before .before .before .before .before .before .loop-test .taken) (c .before .before .before .before .tag-at .result) (c .before .before .before .before .tag-at .ensures) (c .before .before .rest-of .result) (c .before .before .rest-of .ensures) in omega (arith, s)
 
 loop-less : tie.Need-loop-less Inv-loop μ-loop
-loop-less c = let s = depth-size (c .before .before .before .before .before .before .before .before .before .before .args .src .now) (c .before .before .before .before .before .before .before .before .before .before .args .from .now) (c .before .before .before .before .before .before .before .before .before .before .pre) (c .before .before .before .before .before .before .before .loop .i) 0 (c .before .before .before .before .before .before .loop-test .taken) (c .before .before .before .tag-at .result) (c .before .before .before .tag-at .ensures) in omega (arith, s, c .before .before .rest-of .ensures)
+loop-less c = let s = depth-size (c .before .before .before .before .before .before .before .before .before .before .before .args .src .now) (c .before .before .before .before .before .before .before .before .before .before .before .args .from .now) (c .before .before .before .before .before .before .before .before .before .before .before .pre) (c .before .before .before .before .before .before .before .before .loop .i) 0 (c .before .before .before .before .before .before .before .loop-test .taken) (c .before .before .before .before .tag-at .result) (c .before .before .before .before .tag-at .ensures) (c .before .before .rest-of .result) (c .before .before .rest-of .ensures) in omega (arith, s)
 
 loop-again : tie.Need-loop-again Inv-loop μ-loop
-loop-again c = let v = c .before .before .before .before .before .before .before .loop .inv in let s = depth-size (c .before .before .before .before .before .before .before .before .before .before .args .src .now) (c .before .before .before .before .before .before .before .before .before .before .args .from .now) (c .before .before .before .before .before .before .before .before .before .before .pre) (c .before .before .before .before .before .before .before .loop .i) 0 (c .before .before .before .before .before .before .loop-test .taken) (c .before .before .before .tag-at .result) (c .before .before .before .tag-at .ensures) in let d = c .before .depth-after .ensures in let r = c .before .before .rest-of .ensures in (refl, omega (arith, s, r), omega (arith, c .if1 .left), v .3 ∙ rw (r, d) (depth-goes _ _ (c .before .before .before .before .before .before .before .before .before .before .pre) (c .before .before .before .before .before .before .before .loop .i) _ (c .before .before .before .before .before .before .loop-test .taken) _ (c .before .before .before .tag-at .ensures) (omega (arith, d, c .if1 .left))))
+loop-again c = let v = c .before .before .before .before .before .before .before .before .loop .inv in let s = depth-size (c .before .before .before .before .before .before .before .before .before .before .before .args .src .now) (c .before .before .before .before .before .before .before .before .before .before .before .args .from .now) (c .before .before .before .before .before .before .before .before .before .before .before .pre) (c .before .before .before .before .before .before .before .before .loop .i) 0 (c .before .before .before .before .before .before .before .loop-test .taken) (c .before .before .before .before .tag-at .result) (c .before .before .before .before .tag-at .ensures) (c .before .before .rest-of .result) (c .before .before .rest-of .ensures) in let d = c .before .depth-after .ensures in (refl, omega (arith, s), omega (arith, c .if1 .left), v .3 ∙ rw d (depth-goes _ _ (c .before .before .before .before .before .before .before .before .before .before .before .pre) (c .before .before .before .before .before .before .before .before .loop .i) _ (c .before .before .before .before .before .before .before .loop-test .taken) _ (c .before .before .before .before .tag-at .ensures) (c .before .before .rest-of .result) (c .before .before .rest-of .ensures) (omega (arith, d, c .if1 .left))))
 
 returns-2 : tie.Need-returns-2 Inv-loop μ-loop
 returns-2 c = let v = c .before .loop .inv in sym (v .3 ∙ depth-end _ _ (c .before .loop .i) _ (c .before .before .before .before .pre) (omega (arith, c .loop-test .left, v .0)))
@@ -89,6 +98,9 @@ too-deep-spec =
     part-tag-at-start-2
     part-tag-at-end-2
     tag-at-requires
+    sub-rest-of
+    part-rest-of-start
+    part-rest-of-end
     rest-of-requires
     depth-after-requires
     returns

@@ -15,7 +15,7 @@ use Rattle.mark_items.proofs.TagReading.{wide-three}
 use Rattle.mark_tags.specs.Marks.{ends}
 use Rattle.mark_tags.specs.Flat.{withItem, codeOf, numberedTag, stackOf}
 use Rattle.mark_items.proofs.TagReading.{tag-within, stack-kept, reading-step}
-use Rattle.mark_items.proofs.Tabling.{Reading, reading-start, reading-on, reading-end, item-length}
+use Rattle.mark_items.proofs.Tabling.{Reading, reading-start, reading-past, reading-end, item-length}
 use Rattle.mark_items.proofs.Scanning.{number-none}
 use Rattle.mark_items.proofs.items.read_tags.Statement.{statement}
 use Rattle.mark_items.proofs.items.read_tags.Tie as tie
@@ -26,6 +26,7 @@ use Rattle.mark_items.proofs.items.put_item.Reads as put-item-reads
 use Rattle.mark_items.proofs.items.stack_after.Reads as stack-after-reads
 use Rattle.mark_items.proofs.items.width_of.Reads as width-of-reads
 use Rattle.mark_tags.proofs.tags.tag_at.Reads as tag-at-reads
+use Rattle.text.proofs.scan.next_byte.Reads as next-byte-reads
 
 abbrev Inv-loop : tie.InvT-loop
 Inv-loop text nums₀ n i₀ j₀ depth₀ nums i j depth = (length nums ≡ length nums₀) × Reading text nums₀ nums i j depth
@@ -45,21 +46,20 @@ loop-holds c = let a = c .before .before .args in (refl, reading-start (a .text 
 tag-at-requires : tie.Need-tag-at-requires Inv-loop μ-loop
 tag-at-requires c κs = search needs
 
-add-i : tie.Need-add-i Inv-loop μ-loop
-add-i c = search needs
+add-t14 : tie.Need-add-t14 Inv-loop μ-loop
+add-t14 c = search needs
+
+next-byte-requires : tie.Need-next-byte-requires Inv-loop μ-loop
+next-byte-requires c κs = search needs
 
 loop-less : tie.Need-loop-less Inv-loop μ-loop
-loop-less c = search needs
+loop-less c = let n = c .next-byte .ensures in let t = c .before .before .before .loop-test in omega arith
 
 loop-again : tie.Need-loop-again Inv-loop μ-loop
 loop-again c =
-    let l = c .before .before .before .loop in
-    let a = c .before .before .before .before .before .before .args in
-    let s = length-set (a .nums .now) (length (a .text .now)) 0 in
-    let f = l .inv .1 .from in
-    let g = l .inv .1 .few in
-    let h = l .inv .1 .deep in
-    (search needs, reading-on (a .text .now) _ _ (l .i) (l .j) (l .depth) (omega arith) (l .inv .1) (number-none _ (sym (c .before .tag-at .ensures) ∙ c .if1 .taken)))
+    let l = c .before .before .before .before .loop in
+    let a = c .before .before .before .before .before .before .before .args in
+    (search needs, reading-past (a .text .now) _ _ (l .i) (l .j) (l .depth) _ (omega arith) (number-none _ (sym (c .before .before .tag-at .ensures) ∙ c .before .if1 .taken)) (c .next-byte .ensures) (l .inv .1))
 
 code-of-requires : tie.Need-code-of-requires Inv-loop μ-loop
 code-of-requires c κs =
@@ -127,8 +127,8 @@ stack-after-requires c κs =
 add-j : tie.Need-add-j Inv-loop μ-loop
 add-j c = search needs
 
-add-i-2 : tie.Need-add-i-2 Inv-loop μ-loop
-add-i-2 c =
+add-i : tie.Need-add-i Inv-loop μ-loop
+add-i c =
     let l = c .before .before .before .before .before .before .before .before .before .before .before .before .before .before .before .before .before .before .loop in
     let a = c .before .before .before .before .before .before .before .before .before .before .before .before .before .before .before .before .before .before .before .before .before .args in
     let s = length-set (a .nums .now) (length (a .text .now)) 0 in
@@ -210,7 +210,8 @@ read-tags-spec =
     slice-write-nums
     loop-holds
     tag-at-requires
-    add-i
+    add-t14
+    next-byte-requires
     loop-less
     loop-again
     code-of-requires
@@ -221,7 +222,7 @@ read-tags-spec =
     put-item-requires-2
     stack-after-requires
     add-j
-    add-i-2
+    add-i
     loop-less-2
     loop-again-2
     put-item-requires-3

@@ -4,7 +4,8 @@ use mathlib.Core.Path.{_≡_, refl, sym, ap, _∙_}
 use Prim.Native.Nat.{ℕ, suc, _+_, _-_, _≤_, _<_}
 use mathlib.Core.List.{List, [], _∷_, _++_}
 use lib.ListN.{length, getD}
-use Rattle.mark_tags.proofs.TagNumbers.{tag-at}
+use Rattle.mark_tags.specs.Flat.{tagNumber}
+use Rattle.mark_tags.proofs.TagNumbers.{tag-at, no-tag}
 use Rattle.mark_tags.proofs.tags.tag_at.Statement.{statement}
 use Rattle.mark_tags.proofs.tags.tag_at.Tie as tie
 use Rattle.mark_tags.proofs.tags.tag_at.Reads as reads
@@ -12,8 +13,11 @@ use Rattle.mark_tags.proofs.tags.tag_at.Lts as lts
 use Rattle.mark_tags.proofs.tags.tag_of.Reads as tag-of-reads
 use Rattle.text.proofs.scan.byte_at.Reads as byte-at-reads
 
-shared-slice-read-tag-of : tie.Need-shared-slice-read-tag-of
-shared-slice-read-tag-of c = search needs
+shared-slice-read-a : tie.Need-shared-slice-read-a
+shared-slice-read-a c = search needs
+
+returns : tie.Need-returns
+returns c = let a = c .before .before .before .args in sym (ap tagNumber (no-tag (a .s .now) (a .i) (c .if1 .taken)))
 
 add-byte-at : tie.Need-add-byte-at
 add-byte-at c = search needs
@@ -36,14 +40,15 @@ byte-at-requires-3 c κs = search needs
 tag-of-requires : tie.Need-tag-of-requires
 tag-of-requires c κs = search needs
 
-returns : tie.Need-returns
-returns c = let a = c .before .before .before .before .before .before .args in cc (tag-at (a .s .now) (a .i))
+returns-2 : tie.Need-returns-2
+returns-2 c = let a = c .before .before .before .before .before .before .before .args in cc (tag-at (a .s .now) (a .i))
 
 pub tag-at-spec : {M : Type 1} → statement M
 tag-at-spec =
     tie.close
     (tie.spec
-    shared-slice-read-tag-of
+    shared-slice-read-a
+    returns
     add-byte-at
     byte-at-requires
     add-byte-at-2
@@ -51,4 +56,4 @@ tag-at-spec =
     add-byte-at-3
     byte-at-requires-3
     tag-of-requires
-    returns)
+    returns-2)

@@ -4,84 +4,55 @@ use mathlib.Core.Path.{_≡_, refl, sym, ap, _∙_}
 use Prim.Native.Nat.{ℕ, suc, _+_, _-_, _≤_, _<_}
 use mathlib.Core.List.{List, [], _∷_, _++_}
 use lib.ListN.{length, getD}
-use Rattle.quote_lines.proofs.Masking.{visible-by, masked-same, any-twice, same-any}
-use Rattle.quote_lines.specs.Masks.{code, icode, noparse}
+use lib.Seq.{length-take-le}
 use Rattle.quote_lines.proofs.mask.mask_all.Statement.{statement}
 use Rattle.quote_lines.proofs.mask.mask_all.Tie as tie
 use Rattle.quote_lines.proofs.mask.mask_all.Reads as reads
 use Rattle.quote_lines.proofs.mask.mask_all.Lts as lts
-use Rattle.quote_lines.proofs.mask.mask.Reads as mask-reads
+use Rattle.quote_lines.proofs.mask.has_mask.Reads as has-mask-reads
+use Rattle.quote_lines.proofs.mask.mask_each.Reads as mask-each-reads
 
-slice-aggregate-mask : tie.Need-slice-aggregate-mask
-slice-aggregate-mask c = search needs
+-- src/mask.rt:300:17
+slice-reshare-prefix-has-mask : tie.Need-slice-reshare-prefix-has-mask
+slice-reshare-prefix-has-mask c = search needs
 
-slice-aggregate-mask-2 : tie.Need-slice-aggregate-mask-2
-slice-aggregate-mask-2 c = search needs
+-- src/mask.rt:300:17
+slice-aggregate-has-mask : tie.Need-slice-aggregate-has-mask
+slice-aggregate-has-mask c = let a = c .before .before .args in sym (length-take-le (a .n) (a .buf .now) (c .before .before .pre))
 
-slice-aggregate-mask-3 : tie.Need-slice-aggregate-mask-3
-slice-aggregate-mask-3 c = search needs
+-- src/mask.rt:300:8
+has-mask-requires : tie.Need-has-mask-requires
+has-mask-requires c κs = search needs
 
-slice-aggregate-mask-4 : tie.Need-slice-aggregate-mask-4
-slice-aggregate-mask-4 c = search needs
+-- src/mask.rt:301:9
+mask-each-requires : tie.Need-mask-each-requires
+mask-each-requires c κs = search needs
 
-mask-requires : tie.Need-mask-requires
-mask-requires c κs = search needs
-
-slice-aggregate-mask-5 : tie.Need-slice-aggregate-mask-5
-slice-aggregate-mask-5 c = search needs
-
-slice-aggregate-mask-6 : tie.Need-slice-aggregate-mask-6
-slice-aggregate-mask-6 c = search needs
-
-slice-aggregate-mask-7 : tie.Need-slice-aggregate-mask-7
-slice-aggregate-mask-7 c = search needs
-
-slice-aggregate-mask-8 : tie.Need-slice-aggregate-mask-8
-slice-aggregate-mask-8 c = search needs
-
-mask-requires-2 : tie.Need-mask-requires-2
-mask-requires-2 c κs = let s = c .before .before .before .before .before .before .before .mask .ensures .short in let p = c .before .before .before .before .before .before .before .before .before .before .before .before .before .before .pre in omega (arith, s, p)
-
-slice-aggregate-mask-9 : tie.Need-slice-aggregate-mask-9
-slice-aggregate-mask-9 c = search needs
-
-slice-aggregate-mask-10 : tie.Need-slice-aggregate-mask-10
-slice-aggregate-mask-10 c = search needs
-
-slice-aggregate-mask-11 : tie.Need-slice-aggregate-mask-11
-slice-aggregate-mask-11 c = search needs
-
-slice-aggregate-mask-12 : tie.Need-slice-aggregate-mask-12
-slice-aggregate-mask-12 c = search needs
-
-mask-requires-3 : tie.Need-mask-requires-3
-mask-requires-3 c κs = let s = c .before .before .before .before .before .before .before .before .before .before .before .before .before .before .before .mask .ensures .short in let t = c .before .before .before .before .before .before .before .mask2 .ensures .short in let p = c .before .before .before .before .before .before .before .before .before .before .before .before .before .before .before .before .before .before .before .before .before .before .pre in omega (arith, s, t, p)
-
+-- src/mask.rt:301:9
 same-length : tie.Need-same-length
 same-length c = search needs
 
+-- src/mask.rt:301:9
 returns : tie.Need-returns
-unfolding code icode noparse
-returns c = visible-by _ _ _ (c .before .before .before .before .before .before .before .before .before .before .before .before .before .before .before .before .before .before .mask .ensures) (c .before .before .before .before .before .before .before .before .before .before .mask2 .ensures) (c .before .before .mask3 .ensures) (masked-same _ code (same-any _) (any-twice _) 0) (masked-same _ icode (same-any _) (same-any _) 0) (masked-same _ noparse (any-twice _) (any-twice _) 0)
+returns c = search needs
+
+-- src/mask.rt:296:1
+same-length-2 : tie.Need-same-length-2
+same-length-2 c = search needs
+
+-- src/mask.rt:296:1
+returns-2 : tie.Need-returns-2
+returns-2 c = (omega arith, sym (c .before .has-mask .ensures (c .if1 .left)))
 
 pub mask-all-spec : {M : Type 1} → statement M
 mask-all-spec =
     tie.close
     (tie.spec
-    slice-aggregate-mask
-    slice-aggregate-mask-2
-    slice-aggregate-mask-3
-    slice-aggregate-mask-4
-    mask-requires
-    slice-aggregate-mask-5
-    slice-aggregate-mask-6
-    slice-aggregate-mask-7
-    slice-aggregate-mask-8
-    mask-requires-2
-    slice-aggregate-mask-9
-    slice-aggregate-mask-10
-    slice-aggregate-mask-11
-    slice-aggregate-mask-12
-    mask-requires-3
+    slice-reshare-prefix-has-mask
+    slice-aggregate-has-mask
+    has-mask-requires
+    mask-each-requires
     same-length
-    returns)
+    returns
+    same-length-2
+    returns-2)

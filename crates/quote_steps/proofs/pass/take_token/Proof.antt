@@ -8,6 +8,8 @@ use lib.Seq.{length-take-le}
 use lib.ListN.{take}
 use mathlib.Core.Path.{subst}
 use Rattle.quote_steps.proofs.Passing.{opener-taken, stray-taken, closer-taken, text-taken, appending-keeps}
+use Rattle.quote_steps.proofs.Texts.{run-within}
+use Rattle.quote_lines.proofs.Plain.{bracket-past}
 use Rattle.quote_lines.proofs.Tagging.{bracket-on, behind-within, behind-next}
 use Rattle.quote_lines.specs.Tags.{NextBracket, openers, closers, openerSize, closerSize}
 use Rattle.attribution_parts.specs.Attribution.{caption}
@@ -18,6 +20,7 @@ use Rattle.quote_steps.proofs.pass.take_token.Lts as lts
 use Rattle.quote_steps.proofs.close.close_innermost.Reads as close-innermost-reads
 use Rattle.quote_lines.proofs.tag.tag_at.Reads as tag-at-reads
 use Rattle.text.proofs.area.copy_within.Reads as copy-within-reads
+use Rattle.text.proofs.scan.next_byte.Reads as next-byte-reads
 
 slice-reshare-prefix-tag-at : tie.Need-slice-reshare-prefix-tag-at
 slice-reshare-prefix-tag-at c = let p = c .before .before .before .before .before .before .before .before .before .pre in omega (arith, p .0 .0 .1 .0, p .0 .0 .1 .1 .0, p .0 .0 .1 .1 .1, p .0 .1 .0 .0)
@@ -46,12 +49,12 @@ mul-tags c = search needs
 slice-write-tags : tie.Need-slice-write-tags
 slice-write-tags c = let p = c .before .before .before .before .before .before .before .before .before .before .before .before .before .pre in let g = p .1 .1 .1 (λ z. c .if1 .taken (c .before .before .tag-at .ensures .1 .0 ∙ z)) in omega (arith, g, p .1 .0 .1 .0)
 
-add-t27 : tie.Need-add-t27
+add-t28 : tie.Need-add-t28
 unfolding openerSize
-add-t27 c = let a = c .before .before .before .before .before .before .before .before .before .before .before .before .before .args in let p = c .before .before .before .before .before .before .before .before .before .before .before .before .before .pre in let l = length-take-le (a .e) (a .work .now) (omega (arith, p .0 .0 .1 .0, p .0 .0 .1 .1 .0, p .0 .0 .1 .1 .1, p .0 .1 .0 .0)) in let w = behind-within openers (take (a .e) (a .work .now)) (a .from .at .0) (omega (arith, l, p .0 .0 .0)) (c .before .before .tag-at .ensures .1 .0) in omega (arith, w, l)
+add-t28 c = let a = c .before .before .before .before .before .before .before .before .before .before .before .before .before .args in let p = c .before .before .before .before .before .before .before .before .before .before .before .before .before .pre in let l = length-take-le (a .e) (a .work .now) (omega (arith, p .0 .0 .1 .0, p .0 .0 .1 .1 .0, p .0 .0 .1 .1 .1, p .0 .1 .0 .0)) in let w = behind-within openers (take (a .e) (a .work .now)) (a .from .at .0) (omega (arith, l, p .0 .0 .0)) (c .before .before .tag-at .ensures .1 .0) in omega (arith, w, l)
 
-add-t31 : tie.Need-add-t31
-add-t31 c = search needs
+add-t32 : tie.Need-add-t32
+add-t32 c = search needs
 
 same-length : tie.Need-same-length
 same-length c = search needs
@@ -66,9 +69,9 @@ returns : tie.Need-returns
 unfolding openerSize
 returns c = let a = c .before .before .before .before .before .before .before .before .before .before .before .before .before .args in let p = c .before .before .before .before .before .before .before .before .before .before .before .before .before .pre in let E = c .before .before .tag-at .ensures in let he = p .0 .0 .1 .0 in let ht = p .0 .0 .1 .1 .1 in let hb : a .end ≤ length (a .work .now) = omega (arith, p .0 .1 .0 .0) in let hn = p .0 .1 .0 .1 .0 in let hp : a .base ≤ a .end = omega (arith, p .0 .0 .1 .1 .0, ht) in let s = take (a .e) (a .work .now) in let l : length s ≡ a .e = length-take-le (a .e) (a .work .now) (omega (arith, he, hp, hb)) in let il : a .from .at .0 ≤ length s = omega (arith, l, p .0 .0 .0) in let n = c .if1 .taken in let g = p .1 .1 .1 (λ z. n (E .1 .0 ∙ z)) in let w = behind-within openers s (a .from .at .0) il (E .1 .0) in (((omega (arith, n), (omega (arith, w, l), (p .0 .0 .1 .1 .0, omega (arith, g)))), (refl, behind-next openers s (a .from .at .0) il (E .1 .0) s (E .0) n)), opener-taken caption (a .e) (a .base) (a .end) (a .work .now) (a .numbers .now) (a .from .to .0) (a .starts .now) (a .tags .now) (a .from .depth) he hp hb hn ht (a .from .at .0) (p .0 .0 .0) (E .1 .0) n (omega (arith, g, p .1 .0 .0)) (omega (arith, g, p .1 .0 .1 .0)))
 
-add-t33 : tie.Need-add-t33
+add-t34 : tie.Need-add-t34
 unfolding closerSize
-add-t33 c = let a = c .before .before .before .before .before .before .before .before .before .before .before .before .before .before .before .args in let p = c .before .before .before .before .before .before .before .before .before .before .before .before .before .before .before .pre in let l = length-take-le (a .e) (a .work .now) (omega (arith, p .0 .0 .1 .0, p .0 .0 .1 .1 .0, p .0 .0 .1 .1 .1, p .0 .1 .0 .0)) in let w = behind-within closers (take (a .e) (a .work .now)) (a .from .at .0) (omega (arith, l, p .0 .0 .0)) (c .before .before .before .before .tag-at .ensures .1 .1) in omega (arith, w, l)
+add-t34 c = let a = c .before .before .before .before .before .before .before .before .before .before .before .before .before .before .before .args in let p = c .before .before .before .before .before .before .before .before .before .before .before .before .before .before .before .pre in let l = length-take-le (a .e) (a .work .now) (omega (arith, p .0 .0 .1 .0, p .0 .0 .1 .1 .0, p .0 .0 .1 .1 .1, p .0 .1 .0 .0)) in let w = behind-within closers (take (a .e) (a .work .now)) (a .from .at .0) (omega (arith, l, p .0 .0 .0)) (c .before .before .before .before .tag-at .ensures .1 .1) in omega (arith, w, l)
 
 same-length-4 : tie.Need-same-length-4
 same-length-4 c = search needs
@@ -80,12 +83,12 @@ returns-2 c = let a = c .before .before .before .before .before .before .before 
 close-innermost-requires : tie.Need-close-innermost-requires
 close-innermost-requires c κs = let p = c .before .before .before .before .before .before .before .before .before .before .before .before .before .before .before .before .before .before .before .before .before .pre in ((p .0 .0 .1 .0, (p .0 .0 .1 .1 .0, p .0 .0 .1 .1 .1)), (p .0 .1, (omega (arith, c .before .before .before .before .before .before .if3 .left), (omega (arith, p .1 .0 .0, p .1 .0 .1 .1), omega (arith, p .1 .0 .1 .0, p .1 .0 .1 .1)))))
 
-add-t47 : tie.Need-add-t47
+add-t48 : tie.Need-add-t48
 unfolding closerSize
-add-t47 c = let a = c .before .before .before .before .before .before .before .before .before .before .before .before .before .before .before .before .before .before .before .before .before .before .before .before .before .before .before .before .before .before .args in let p = c .before .before .before .before .before .before .before .before .before .before .before .before .before .before .before .before .before .before .before .before .before .before .before .before .before .before .before .before .before .before .pre in let l = length-take-le (a .e) (a .work .now) (omega (arith, p .0 .0 .1 .0, p .0 .0 .1 .1 .0, p .0 .0 .1 .1 .1, p .0 .1 .0 .0)) in let w = behind-within closers (take (a .e) (a .work .now)) (a .from .at .0) (omega (arith, l, p .0 .0 .0)) (c .before .before .before .before .before .before .before .before .before .before .before .before .before .before .before .before .before .before .before .tag-at .ensures .1 .1) in omega (arith, w, l)
+add-t48 c = let a = c .before .before .before .before .before .before .before .before .before .before .before .before .before .before .before .before .before .before .before .before .before .before .before .before .before .before .before .before .before .before .args in let p = c .before .before .before .before .before .before .before .before .before .before .before .before .before .before .before .before .before .before .before .before .before .before .before .before .before .before .before .before .before .before .pre in let l = length-take-le (a .e) (a .work .now) (omega (arith, p .0 .0 .1 .0, p .0 .0 .1 .1 .0, p .0 .0 .1 .1 .1, p .0 .1 .0 .0)) in let w = behind-within closers (take (a .e) (a .work .now)) (a .from .at .0) (omega (arith, l, p .0 .0 .0)) (c .before .before .before .before .before .before .before .before .before .before .before .before .before .before .before .before .before .before .before .tag-at .ensures .1 .1) in omega (arith, w, l)
 
-sub-t49 : tie.Need-sub-t49
-sub-t49 c = search needs
+sub-t50 : tie.Need-sub-t50
+sub-t50 c = search needs
 
 same-length-5 : tie.Need-same-length-5
 same-length-5 c = search needs
@@ -109,14 +112,20 @@ returns-3 : tie.Need-returns-3
 unfolding closerSize
 returns-3 c = let a = c .before .before .before .before .before .before .before .before .before .before .before .before .before .before .before .before .before .before .before .before .before .before .before .before .before .before .before .before .before .before .args in let p = c .before .before .before .before .before .before .before .before .before .before .before .before .before .before .before .before .before .before .before .before .before .before .before .before .before .before .before .before .before .before .pre in let E = c .before .before .before .before .before .before .before .before .before .before .before .before .before .before .before .before .before .before .before .tag-at .ensures in let he = p .0 .0 .1 .0 in let ht = p .0 .0 .1 .1 .1 in let hb : a .end ≤ length (a .work .now) = omega (arith, p .0 .1 .0 .0) in let hn = p .0 .1 .0 .1 .0 in let hp : a .base ≤ a .end = omega (arith, p .0 .0 .1 .1 .0, ht) in let s = take (a .e) (a .work .now) in let l : length s ≡ a .e = length-take-le (a .e) (a .work .now) (omega (arith, he, hp, hb)) in let il : a .from .at .0 ≤ length s = omega (arith, l, p .0 .0 .0) in let n = c .before .before .before .before .before .before .before .before .before .before .before .before .before .before .before .before .if2 .taken in let w = behind-within closers s (a .from .at .0) il (E .1 .1) in let Q = c .before .before .before .before .before .before .before .before .close-innermost .ensures in (((omega (arith, n), (omega (arith, w, l), (Q .0, omega (arith, p .1 .0 .1 .1)))), (Q .1 .0, behind-next closers s (a .from .at .0) il (E .1 .1) _ (E .0) n)), closer-taken caption (a .e) (a .base) (a .end) (a .work .now) (a .numbers .now) (a .from .to .0) (a .starts .now) (a .tags .now) (a .from .depth) he hp hb hn ht (a .from .at .0) (p .0 .0 .0) (E .1 .0) (c .before .before .before .before .before .before .before .before .before .before .before .before .before .before .before .before .before .if1 .left) (E .1 .1) n (c .before .before .before .before .before .before .before .before .before .before .before .before .before .before .before .if3 .left) (Q .1 .1))
 
-add-t54 : tie.Need-add-t54
-add-t54 c = search needs
+slice-reshare-prefix-next-byte : tie.Need-slice-reshare-prefix-next-byte
+slice-reshare-prefix-next-byte c = let p = c .before .before .before .before .before .before .before .before .before .before .before .before .before .before .pre in omega (arith, p .0 .0 .1 .0, p .0 .0 .1 .1 .0, p .0 .0 .1 .1 .1, p .0 .1 .0 .0)
+
+slice-aggregate-next-byte : tie.Need-slice-aggregate-next-byte
+slice-aggregate-next-byte c = let a = c .before .before .before .before .before .before .before .before .before .before .before .before .before .before .before .args in let p = c .before .before .before .before .before .before .before .before .before .before .before .before .before .before .before .pre in sym (length-take-le (a .e) (a .work .now) (omega (arith, p .0 .0 .1 .0, p .0 .0 .1 .1 .0, p .0 .0 .1 .1 .1, p .0 .1 .0 .0)))
+
+add-t53 : tie.Need-add-t53
+add-t53 c = search needs
+
+next-byte-requires : tie.Need-next-byte-requires
+next-byte-requires c κs = let a = c .before .before .before .before .before .before .before .before .before .before .before .before .before .before .before .args in let p = c .before .before .before .before .before .before .before .before .before .before .before .before .before .before .before .pre in let s = take (a .e) (a .work .now) in let l : length s ≡ a .e = length-take-le (a .e) (a .work .now) (omega (arith, p .0 .0 .1 .0, p .0 .0 .1 .1 .0, p .0 .0 .1 .1 .1, p .0 .1 .0 .0)) in omega (arith, l, p .0 .0 .0)
 
 copy-within-requires : tie.Need-copy-within-requires
-copy-within-requires c κs = let p = c .before .before .before .before .before .before .before .before .before .before .before .before .before .before .before .before .pre in ((search needs, omega (arith, p .0 .0 .0, p .0 .0 .1 .0, p .0 .0 .1 .1 .0)), (omega (arith, p .0 .0 .0, p .0 .0 .1 .0, p .0 .0 .1 .1 .0, p .0 .0 .1 .1 .1), (omega (arith, p .0 .1 .0 .0), p .0 .1 .0 .1 .0)))
-
-add-t54-2 : tie.Need-add-t54-2
-add-t54-2 c = search needs
+copy-within-requires c κs = let a = c .before .before .before .before .before .before .before .before .before .before .before .before .before .before .before .before .before .before .args in let p = c .before .before .before .before .before .before .before .before .before .before .before .before .before .before .before .before .before .before .pre in let s = take (a .e) (a .work .now) in let l : length s ≡ a .e = length-take-le (a .e) (a .work .now) (omega (arith, p .0 .0 .1 .0, p .0 .0 .1 .1 .0, p .0 .0 .1 .1 .1, p .0 .1 .0 .0)) in let r = run-within s (a .from .at .0 + 1) (omega (arith, l, p .0 .0 .0)) (c .before .before .next-byte .ensures) in ((omega (arith, r .0), omega (arith, r .1, l, p .0 .0 .1 .0, p .0 .0 .1 .1 .0)), (omega (arith, r .1, l, p .0 .0 .1 .0, p .0 .0 .1 .1 .0, p .0 .0 .1 .1 .1), (omega (arith, p .0 .1 .0 .0), p .0 .1 .0 .1 .0)))
 
 same-length-11 : tie.Need-same-length-11
 same-length-11 c = search needs
@@ -125,7 +134,7 @@ same-length-12 : tie.Need-same-length-12
 same-length-12 c = search needs
 
 returns-4 : tie.Need-returns-4
-returns-4 c = let a = c .before .before .before .before .before .before .before .before .before .before .before .before .before .before .before .before .before .before .before .before .before .args in let p = c .before .before .before .before .before .before .before .before .before .before .before .before .before .before .before .before .before .before .before .before .before .pre in let E = c .before .before .before .before .before .before .before .before .before .before .tag-at .ensures in let he = p .0 .0 .1 .0 in let ht = p .0 .0 .1 .1 .1 in let hb : a .end ≤ length (a .work .now) = omega (arith, p .0 .1 .0 .0) in let hn = p .0 .1 .0 .1 .0 in let hp : a .base ≤ a .end = omega (arith, p .0 .0 .1 .1 .0, ht) in let s = take (a .e) (a .work .now) in let l : length s ≡ a .e = length-take-le (a .e) (a .work .now) (omega (arith, he, hp, hb)) in let il : a .from .at .0 ≤ length s = omega (arith, l, p .0 .0 .0) in let Q = c .before .before .before .before .copy-within .ensures in let kept = appending-keeps caption (a .e) (a .base) (a .end) (a .work .now) (a .numbers .now) (a .from .to .0) (a .starts .now) (a .tags .now) (a .from .depth) he hp hb hn ht Q (p .0 .0 .1 .1 .0) (search needs) (search needs) in (((search needs, (omega (arith, p .0 .0 .0), (omega (arith, p .0 .0 .1 .1 .0, Q .appends .grows), p .1 .0 .1 .1))), (kept, subst (λ (x : List ℕ). NextBracket x (a .from .at .0 + 1) (c .before .before .before .before .before .before .before .before .before .before .tag-at .result .bracket .0)) (sym kept) (λ q. bracket-on s (a .from .at .0) _ il (E .0) (omega (arith, l, p .0 .0 .0)) q))), text-taken caption (a .e) (a .base) (a .end) (a .work .now) (a .numbers .now) (a .from .to .0) (a .starts .now) (a .tags .now) (a .from .depth) he hp hb hn ht (a .from .at .0) (p .0 .0 .0) (E .1 .0) (c .before .before .before .before .before .before .before .before .if1 .left) (E .1 .1) (c .before .before .before .before .before .before .before .if2 .left) Q)
+returns-4 c = let a = c .before .before .before .before .before .before .before .before .before .before .before .before .before .before .before .before .before .before .before .before .before .before .before .args in let p = c .before .before .before .before .before .before .before .before .before .before .before .before .before .before .before .before .before .before .before .before .before .before .before .pre in let E = c .before .before .before .before .before .before .before .before .before .before .before .before .tag-at .ensures in let he = p .0 .0 .1 .0 in let ht = p .0 .0 .1 .1 .1 in let hb : a .end ≤ length (a .work .now) = omega (arith, p .0 .1 .0 .0) in let hn = p .0 .1 .0 .1 .0 in let hp : a .base ≤ a .end = omega (arith, p .0 .0 .1 .1 .0, ht) in let s = take (a .e) (a .work .now) in let l : length s ≡ a .e = length-take-le (a .e) (a .work .now) (omega (arith, p .0 .0 .1 .0, p .0 .0 .1 .1 .0, p .0 .0 .1 .1 .1, p .0 .1 .0 .0)) in let il : a .from .at .0 ≤ length s = omega (arith, l, p .0 .0 .0) in let r = run-within s (a .from .at .0 + 1) (omega (arith, l, p .0 .0 .0)) (c .before .before .before .before .before .before .before .next-byte .ensures) in let Q = c .before .before .before .before .copy-within .ensures in let kept = appending-keeps caption (a .e) (a .base) (a .end) (a .work .now) (a .numbers .now) (a .from .to .0) (a .starts .now) (a .tags .now) (a .from .depth) he hp hb hn ht Q (p .0 .0 .1 .1 .0) (search needs) (search needs) in (((omega (arith, r .0), (omega (arith, r .1, l), (omega (arith, p .0 .0 .1 .1 .0, Q .appends .grows), p .1 .0 .1 .1))), (kept, subst (λ (x : List ℕ). NextBracket x (c .before .before .before .before .before .before .before .next-byte .result .0) (c .before .before .before .before .before .before .before .before .before .before .before .before .tag-at .result .bracket .0)) (sym kept) (bracket-past s (a .from .at .0 + 1) _ (r .0) (r .1) (λ q. bracket-on s (a .from .at .0) _ il (E .0) (omega (arith, l, p .0 .0 .0)) q)))), text-taken caption (a .e) (a .base) (a .end) (a .work .now) (a .numbers .now) (a .from .to .0) (a .starts .now) (a .tags .now) (a .from .depth) he hp hb hn ht (a .from .at .0) (p .0 .0 .0) (E .1 .0) (c .before .before .before .before .before .before .before .before .before .before .if1 .left) (E .1 .1) (c .before .before .before .before .before .before .before .before .before .if2 .left) (c .before .before .before .before .before .before .before .next-byte .ensures) Q)
 
 pub take-token-spec : {M : Type 1} → statement M
 take-token-spec =
@@ -140,18 +149,18 @@ take-token-spec =
     cast-tags
     mul-tags
     slice-write-tags
-    add-t27
-    add-t31
+    add-t28
+    add-t32
     same-length
     same-length-2
     same-length-3
     returns
-    add-t33
+    add-t34
     same-length-4
     returns-2
     close-innermost-requires
-    add-t47
-    sub-t49
+    add-t48
+    sub-t50
     same-length-5
     same-length-6
     same-length-7
@@ -159,9 +168,11 @@ take-token-spec =
     same-length-9
     same-length-10
     returns-3
-    add-t54
+    slice-reshare-prefix-next-byte
+    slice-aggregate-next-byte
+    add-t53
+    next-byte-requires
     copy-within-requires
-    add-t54-2
     same-length-11
     same-length-12
     returns-4)

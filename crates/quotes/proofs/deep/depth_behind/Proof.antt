@@ -14,6 +14,7 @@ use Rattle.quotes.proofs.deep.depth_behind.Lts as lts
 use Rattle.quote_lines.proofs.tag.bracket_from.Reads as bracket-from-reads
 use Rattle.quote_lines.proofs.tag.closer_size.Reads as closer-size-reads
 use Rattle.quote_lines.proofs.tag.opener_size.Reads as opener-size-reads
+use Rattle.text.proofs.scan.next_byte.Reads as next-byte-reads
 
 bracket-from-requires : tie.Need-bracket-from-requires
 bracket-from-requires c κs = search needs
@@ -21,12 +22,12 @@ bracket-from-requires c κs = search needs
 opener-size-requires : tie.Need-opener-size-requires
 opener-size-requires c κs = search needs
 
-add-t11 : tie.Need-add-t11
+add-t12 : tie.Need-add-t12
 unfolding openerSize
-add-t11 c = let a = c .before .before .before .before .before .before in let w = behind-within openers (a .args .s .now) (a .args .from .at .0) (omega arith) (c .before .opener-size .ensures) in omega (arith, w)
+add-t12 c = let a = c .before .before .before .before .before .before in let w = behind-within openers (a .args .s .now) (a .args .from .at .0) (omega arith) (c .before .opener-size .ensures) in omega (arith, w)
 
-add-t13 : tie.Need-add-t13
-add-t13 c = search needs
+add-t14 : tie.Need-add-t14
+add-t14 c = search needs
 
 returns : tie.Need-returns
 returns c = let a = c .before .before .before .before .before .before in depth-opener (a .args .s .now) (a .args .from .at .0) _ _ _ (a .pre .0) (c .before .before .bracket-from .ensures) (a .pre .1 .1) (c .before .opener-size .ensures) (c .if1 .taken)
@@ -34,28 +35,31 @@ returns c = let a = c .before .before .before .before .before .before in depth-o
 closer-size-requires : tie.Need-closer-size-requires
 closer-size-requires c κs = search needs
 
-add-t15 : tie.Need-add-t15
+add-t16 : tie.Need-add-t16
 unfolding closerSize
-add-t15 c = let a = c .before .before .before .before .before .before .before .before .before in let w = behind-within closers (a .args .s .now) (a .args .from .at .0) (omega arith) (c .before .before .closer-size .ensures) in omega (arith, w)
+add-t16 c = let a = c .before .before .before .before .before .before .before .before .before in let w = behind-within closers (a .args .s .now) (a .args .from .at .0) (omega arith) (c .before .before .closer-size .ensures) in omega (arith, w)
 
 returns-2 : tie.Need-returns-2
 returns-2 c = let a = c .before .before .before .before .before .before .before .before .before in depth-closer (a .args .s .now) (a .args .from .at .0) _ _ _ (a .pre .0) (c .before .before .before .before .before .bracket-from .ensures) (a .pre .1 .1) (c .before .before .before .before .opener-size .ensures) _ (c .before .before .before .if1 .left) (c .before .before .closer-size .ensures) _ (c .before .if2 .taken) (omega arith)
 
-add-t17 : tie.Need-add-t17
+add-t18 : tie.Need-add-t18
 unfolding closerSize
-add-t17 c = let a = c .before .before .before .before .before .before .before .before .before in let w = behind-within closers (a .args .s .now) (a .args .from .at .0) (omega arith) (c .before .before .closer-size .ensures) in omega (arith, w)
+add-t18 c = let a = c .before .before .before .before .before .before .before .before .before in let w = behind-within closers (a .args .s .now) (a .args .from .at .0) (omega arith) (c .before .before .closer-size .ensures) in omega (arith, w)
 
-sub-t19 : tie.Need-sub-t19
-sub-t19 c = search needs
+sub-t20 : tie.Need-sub-t20
+sub-t20 c = search needs
 
 returns-3 : tie.Need-returns-3
 returns-3 c = let a = c .before .before .before .before .before .before .before .before .before in depth-closer (a .args .s .now) (a .args .from .at .0) _ _ _ (a .pre .0) (c .before .before .before .before .before .bracket-from .ensures) (a .pre .1 .1) (c .before .before .before .before .opener-size .ensures) _ (c .before .before .before .if1 .left) (c .before .before .closer-size .ensures) _ (c .before .if2 .taken) refl
 
-add-t20 : tie.Need-add-t20
-add-t20 c = search needs
+add-t21 : tie.Need-add-t21
+add-t21 c = search needs
+
+next-byte-requires : tie.Need-next-byte-requires
+next-byte-requires c κs = search needs
 
 returns-4 : tie.Need-returns-4
-returns-4 c = let a = c .before .before .before .before .before .before .before .before in depth-text (a .args .s .now) (a .args .from .at .0) _ _ _ (a .pre .0) (c .before .before .before .before .bracket-from .ensures) (a .pre .1 .1) (c .before .before .before .opener-size .ensures) _ (c .before .before .if1 .left) (c .before .closer-size .ensures) (c .if2 .left)
+returns-4 c = let a = c .before .before .before .before .before .before .before .before .before in depth-text (a .args .s .now) (a .args .from .at .0) _ _ _ (a .pre .0) (c .before .before .before .before .before .bracket-from .ensures) (a .pre .1 .1) (c .before .before .before .before .opener-size .ensures) _ (c .before .before .before .if1 .left) (c .before .before .closer-size .ensures) (c .before .if2 .left) (c .next-byte .ensures)
 
 pub depth-behind-spec : {M : Type 1} → statement M
 depth-behind-spec =
@@ -63,14 +67,15 @@ depth-behind-spec =
     (tie.spec
     bracket-from-requires
     opener-size-requires
-    add-t11
-    add-t13
+    add-t12
+    add-t14
     returns
     closer-size-requires
-    add-t15
+    add-t16
     returns-2
-    add-t17
-    sub-t19
+    add-t18
+    sub-t20
     returns-3
-    add-t20
+    add-t21
+    next-byte-requires
     returns-4)

@@ -4,14 +4,16 @@ use mathlib.Core.Path.{_≡_, refl, sym, ap, _∙_}
 use Prim.Native.Nat.{ℕ, suc, _+_, _-_, _≤_, _<_}
 use mathlib.Core.List.{List, [], _∷_, _++_}
 use lib.ListN.{length, getD}
+use lib.Seq.{length-take-le}
 use native.Mathlib.Nat.{le-antisymm}
-use Rattle.text.proofs.Trimming.{onto, lines-none, lines-more, lines-feed, lines-last}
+use Rattle.text.proofs.Trimming.{onto, lines-none, lines-on, lines-feed, lines-last}
 use Rattle.text.specs.Lines.{lines}
 use Rattle.text.specs.Cells.{cells, part}
 use Rattle.text.proofs.trim.line_end.Statement.{statement}
 use Rattle.text.proofs.trim.line_end.Tie as tie
 use Rattle.text.proofs.trim.line_end.Reads as reads
 use Rattle.text.proofs.trim.line_end.Lts as lts
+use Rattle.text.proofs.scan.next_byte.Reads as next-byte-reads
 use Rattle.text.proofs.trim.is_feed.Reads as is-feed-reads
 
 abbrev Inv-loop : tie.InvT-loop
@@ -41,17 +43,28 @@ returns c =
     let a = l .before .before .before .args in
     (search needs, (search needs, l .loop .inv .2 ∙ lines-feed _ _ (a .a .0) (l .loop .i) (a .e .0) (omega arith) (omega arith) (omega arith) (omega arith) (sym (c .before .is-feed .ensures) ∙ c .if1 .taken)))
 
-add-i : tie.Need-add-i Inv-loop μ-loop
-add-i c = search needs
+slice-aggregate-next-byte : tie.Need-slice-aggregate-next-byte Inv-loop μ-loop
+slice-aggregate-next-byte c = let s = c .before .before .before .before .before .before .before .before .before in sym (length-take-le (s .args .e .0) (s .args .src .now) (omega (arith, s .pre)))
+
+add-t12 : tie.Need-add-t12 Inv-loop μ-loop
+add-t12 c = search needs
+
+next-byte-requires : tie.Need-next-byte-requires Inv-loop μ-loop
+next-byte-requires c κs = let s = c .before .before .before .before .before .before .before .before .before in let l = length-take-le (s .args .e .0) (s .args .src .now) (omega (arith, s .pre)) in omega arith
 
 loop-less : tie.Need-loop-less Inv-loop μ-loop
-loop-less c = search needs
+loop-less c =
+    let l = c .before .before .before .before .before .before .before in
+    let a = l .before .before .before .args in
+    let b = lines-on (a .src .now) (a .from .now) (a .a .0) (l .loop .i) (a .e .0) _ (omega arith) (omega arith) (omega arith) (omega arith) (sym (c .before .before .before .is-feed .ensures) ∙ c .before .before .if1 .left) (c .next-byte .ensures) in
+    omega (arith, b .0, b .1 .0)
 
 loop-again : tie.Need-loop-again Inv-loop μ-loop
 loop-again c =
-    let l = c .before .before .before .before .before in
+    let l = c .before .before .before .before .before .before .before in
     let a = l .before .before .before .args in
-    (search needs, search needs, l .loop .inv .2 ∙ lines-more _ _ (a .a .0) (l .loop .i) (a .e .0) (omega arith) (omega arith) (omega arith) (omega arith) (sym (c .before .is-feed .ensures) ∙ c .if1 .left))
+    let b = lines-on (a .src .now) (a .from .now) (a .a .0) (l .loop .i) (a .e .0) _ (omega arith) (omega arith) (omega arith) (omega arith) (sym (c .before .before .before .is-feed .ensures) ∙ c .before .before .if1 .left) (c .next-byte .ensures) in
+    (omega (arith, b .0, l .loop .inv .0), b .1 .0, l .loop .inv .2 ∙ b .1 .1)
 
 returns-2 : tie.Need-returns-2 Inv-loop μ-loop
 returns-2 c =
@@ -71,7 +84,9 @@ line-end-spec =
     shared-slice-read-is-feed-2
     is-feed-requires
     returns
-    add-i
+    slice-aggregate-next-byte
+    add-t12
+    next-byte-requires
     loop-less
     loop-again
     returns-2)
