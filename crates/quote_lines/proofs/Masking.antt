@@ -143,11 +143,17 @@ drop-take-take (suc j) (suc n) [] = rw (suc-sub-suc, take-nil)
 drop-take-take (suc j) (suc n) (z ∷ zs) = rw suc-sub-suc (drop-take-take j n zs)
 
 -- what has not been read yet stands as it was
-unread : (i j n : ℕ) (xs ys : List ℕ) → drop i xs ≡ drop i ys → i ≤ j → drop j (take n xs) ≡ drop j (take n ys)
+pub unread : (i j n : ℕ) (xs ys : List ℕ) → drop i xs ≡ drop i ys → i ≤ j → drop j (take n xs) ≡ drop j (take n ys)
 unread i j n xs ys e h =
     let x : i + (j - i) ≡ j = omega arith in
     let a : drop j xs ≡ drop j ys = ap (λ (k : ℕ). drop k xs) (sym x) ∙ sym (drop-drop (j - i) i xs) ∙ ap (drop (j - i)) e ∙ drop-drop (j - i) i ys ∙ ap (λ (k : ℕ). drop k ys) x in
     drop-take-take j n xs ∙ ap (take (n - j)) a ∙ sym (drop-take-take j n ys)
+
+pub first-of : (xs ys : List ℕ) (k : ℕ) → drop k xs ≡ drop k ys → getD xs k 0 ≡ getD ys k 0
+first-of xs ys k p =
+    let a : getD (drop k xs) 0 0 ≡ getD xs k 0 = rw (getD-drop k xs 0 0, add-zero) in
+    let c : getD (drop k ys) 0 0 ≡ getD ys k 0 = rw (getD-drop k ys 0 0, add-zero) in
+    sym a ∙ ap (λ (l : List ℕ). getD l 0 0) p ∙ c
 
 pub record Masking (m : Mask) (s : List ℕ) (n : ℕ) (buf : List ℕ) (i to left b f q : ℕ) : Type 0 where
   pub same : length buf ≡ length s
@@ -198,12 +204,6 @@ module _ {m : Mask} {s : List ℕ} {n : ℕ} {buf : List ℕ} {i to left b f q :
         let d : drop i (take n s) ≡ getD (take n s) i 0 ∷ drop (suc i) (take n s) = drop-cons (take n s) i 0 (omega arith) in
         let z : size ≡ cond (ltb 0 left) left (region m (getD (take n s) i 0 ∷ drop (suc i) (take n s))) = es ∙ ap (λ (l : List ℕ). cond (ltb 0 left) left (region m l)) (u ∙ d) in
         ap (masked m left) d ∙ masked-turn m left (getD (take n s) i 0) (drop (suc i) (take n s)) ∙ rw (← z, ← x, eb, add-one)
-      where
-        first-of : (xs ys : List ℕ) (k : ℕ) → drop k xs ≡ drop k ys → getD xs k 0 ≡ getD ys k 0
-        first-of xs ys k p =
-            let a : getD (drop k xs) 0 0 ≡ getD xs k 0 = rw (getD-drop k xs 0 0, add-zero) in
-            let c : getD (drop k ys) 0 0 ≡ getD ys k 0 = rw (getD-drop k ys 0 0, add-zero) in
-            sym a ∙ ap (λ (l : List ℕ). getD l 0 0) p ∙ c
 
     further : drop (i + 1) buf ≡ drop (i + 1) s
     further = sym (drop-drop 1 i buf) ∙ ap (drop 1) (w .rest) ∙ drop-drop 1 i s

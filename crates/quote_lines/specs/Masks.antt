@@ -67,6 +67,12 @@ pub record Masked (m : Mask) (n : ℕ) (before : List ℕ) (r : ℕ) (after : Li
   pub short : r ≤ n
   pub text : take r after ≡ masked m 0 (take n before)
 
+-- in code: the bytes from a up to e have been moved down to a place before them, up to r
+pub record MovedDown (before : List ℕ) (a e to : ℕ) (after : List ℕ) (r : ℕ) : Type 0 where
+  pub end : r ≡ to + (e - a)
+  pub text : take r after ≡ take to before ++ take (e - a) (drop a before)
+  pub rest : drop e after ≡ drop e before
+
 -- where it is known, from place i on, that the first closer from a place between a and q on stands at q, or that none stands there
 pub record KnownCloser (ws : List (List ℕ)) (s : List ℕ) (i a q : ℕ) : Type 0 where
   pub at : (j : ℕ) → i ≤ j → a ≤ j → j ≤ q → q ≡ j + toCloser ws (drop j s)

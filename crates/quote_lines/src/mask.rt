@@ -13,11 +13,11 @@ ghost use mathlib.Core.Path.{_≡_};
 ghost use mathlib.Core.Bool.{cond, false};
 ghost use mathlib.Core.List.{[], _∷_};
 ghost use Prim.Native.Nat.{_+_, _-_, _≤_, _<_};
-ghost use lib.ListN.{length, take, drop};
+ghost use lib.ListN.{length, take, drop, getD};
 ghost use lib.Dec.{ltb};
-ghost use Rattle.text.specs.Ascii.{toBracket};
+ghost use Rattle.text.specs.Ascii.{is, toFirst, toBracket};
 ghost use Rattle.quote_lines.specs.Tags.{NextBracket, beginsAny, tagSize};
-ghost use Rattle.quote_lines.specs.Masks.{toCloser, region, shown, Masked, KnownCloser, visible, NoMask};
+ghost use Rattle.quote_lines.specs.Masks.{toCloser, region, shown, Masked, MovedDown, KnownCloser, visible, NoMask};
 
 // Whether the text from a place on begins with one of two words.
 fn begins_either(s: &[u8], at: PostAt, first: &[u8], second: &[u8]) -> bool
@@ -179,6 +179,35 @@ fn byte_for(left: usize, b: u8) -> usize
     b as usize
 }
 
+// The end of a run that no region begins in: the next `[`, and within a region the place itself.
+fn run_end(s: &[u8], at: PostAt, left: usize) -> PostAt
+    requires { ⌜ at .0 ≤ length (now s) ⌝ }
+    ensures { λ r. ⌜ r .0 ≡ at .0 + cond (ltb 0 left) 0 (toFirst (is "[") (drop (at .0) (now (s .entry)))) ⌝ }
+{
+    if 0 < left {
+        return at;
+    }
+    next_byte(s, at, b'[')
+}
+
+// Moves the bytes from a up to e down to a place before them, and returns the place behind them.
+fn move_down(buf: &mut [u8], a: usize, e: usize, to: usize) -> usize
+    requires { ⌜ (to ≤ a) × ((a ≤ e) × (e ≤ length (now buf))) ⌝ }
+    ensures { λ r. ⌜ MovedDown (now (buf .entry)) a e to (now (buf .exit)) r ⌝ }
+{
+    if to == a {
+        return e;
+    }
+    let mut i = a;
+    let mut t = to;
+    while i < e {
+        buf[t] = buf[i];
+        t += 1;
+        i += 1;
+    }
+    t
+}
+
 fn one_less(left: usize) -> usize
     ensures { λ r. ⌜ r ≡ left - 1 ⌝ }
 {
@@ -188,7 +217,7 @@ fn one_less(left: usize) -> usize
     left - 1
 }
 
-// Masks the first n bytes: openers and closers are one of two words each. Returns how many bytes are left.
+// Masks the first n bytes: openers and closers are one of two words each, openers with `[`. Returns how many bytes are left.
 fn mask(
     buf: &mut [u8],
     n: usize,
@@ -197,7 +226,7 @@ fn mask(
     first: &[u8],
     second: &[u8],
 ) -> usize
-    requires { ⌜ n ≤ length (now buf) ⌝ }
+    requires { ⌜ (n ≤ length (now buf)) × ((getD (now opener) 0 0 ≡ 91) × (getD (now opener2) 0 0 ≡ 91)) ⌝ }
     ensures { λ r. ⌜ Masked (record { opens = now (opener .entry) ∷ now (opener2 .entry) ∷ []; closes = now (first .entry) ∷ now (second .entry) ∷ [] }) n (now (buf .entry)) r (now (buf .exit)) ⌝ }
 {
     let mut i: usize = 0;
@@ -209,6 +238,12 @@ fn mask(
         at: PostAt(0),
     };
     while i < n {
+        let next = run_end(&buf[..n], PostAt(i), left);
+        to = move_down(buf, i, next.0, to);
+        i = next.0;
+        if n <= i {
+            return to;
+        }
         let here = region_left(
             &buf[..n],
             PostAt(i),

@@ -25,7 +25,7 @@ slice-aggregate-mask-4 : tie.Need-slice-aggregate-mask-4
 slice-aggregate-mask-4 c = search needs
 
 mask-requires : tie.Need-mask-requires
-mask-requires c κs = search needs
+mask-requires c κs = (search needs, (refl, refl))
 
 slice-aggregate-mask-5 : tie.Need-slice-aggregate-mask-5
 slice-aggregate-mask-5 c = search needs
@@ -40,7 +40,7 @@ slice-aggregate-mask-8 : tie.Need-slice-aggregate-mask-8
 slice-aggregate-mask-8 c = search needs
 
 mask-requires-2 : tie.Need-mask-requires-2
-mask-requires-2 c κs = let s = c .before .before .before .before .before .before .before .mask .ensures .short in let p = c .before .before .before .before .before .before .before .before .before .before .before .before .before .before .pre in omega (arith, s, p)
+mask-requires-2 c κs = let s = c .before .before .before .before .before .before .before .mask .ensures .short in let p = c .before .before .before .before .before .before .before .before .before .before .before .before .before .before .pre in (omega (arith, s, p), (refl, refl))
 
 slice-aggregate-mask-9 : tie.Need-slice-aggregate-mask-9
 slice-aggregate-mask-9 c = search needs
@@ -55,7 +55,7 @@ slice-aggregate-mask-12 : tie.Need-slice-aggregate-mask-12
 slice-aggregate-mask-12 c = search needs
 
 mask-requires-3 : tie.Need-mask-requires-3
-mask-requires-3 c κs = let s = c .before .before .before .before .before .before .before .before .before .before .before .before .before .before .before .mask .ensures .short in let t = c .before .before .before .before .before .before .before .mask2 .ensures .short in let p = c .before .before .before .before .before .before .before .before .before .before .before .before .before .before .before .before .before .before .before .before .before .before .pre in omega (arith, s, t, p)
+mask-requires-3 c κs = let s = c .before .before .before .before .before .before .before .before .before .before .before .before .before .before .before .mask .ensures .short in let t = c .before .before .before .before .before .before .before .mask2 .ensures .short in let p = c .before .before .before .before .before .before .before .before .before .before .before .before .before .before .before .before .before .before .before .before .before .before .pre in (omega (arith, s, t, p), (refl, refl))
 
 same-length : tie.Need-same-length
 same-length c = search needs
