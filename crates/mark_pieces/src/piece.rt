@@ -30,7 +30,8 @@ pub fn is_even(s: &[u8], a: usize, e: usize) -> bool
     even
 }
 
-fn is_touching(touches: bool, b: u8) -> bool
+// Whether a byte at the end of a text piece would be read together with a mark behind it.
+pub fn is_touching(touches: bool, b: u8) -> bool
     ensures { λ r. ⌜ r ≡ touching touches b ⌝ }
 {
     touches & ((b == b'*') | (b == b'/') | (b == b'_') | (b == b'~') | (b == b'='))

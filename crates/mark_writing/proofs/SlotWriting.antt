@@ -7,13 +7,25 @@ use native.Mathlib.Omega.{arith}
 use native.Mathlib.Decide.{decLe}
 use lib.Dec.{eqb}
 use lib.ListN.{length, take, getD, length-map}
+use Rattle.text.specs.Ascii.{is}
 use Rattle.text.specs.Cells.{Cell, cell, cells, part}
 use Rattle.text.specs.Writes.{Appends}
-use Rattle.mark_tags.specs.Marks.{Kind, Items, end, text, gone, mark, Slots, open-end, closed, front, Written, shift, plain, _▹_, content, Next, next, marked, State, start, Step, textStep, pieceText, markStep, wrap, lastOr, absent, write, spanNumbers}
-use Rattle.mark_tags.specs.Flat.{around, within, beyond, depthOf, boundAt, slotAt, Fresh, kindNumbered, kindsOf, Held, Ready, Empty, NextIs}
+use Rattle.mark_tags.specs.Marks.{Kind, Items, end, text, gone, mark, Slots, open-end, closed, front, Written, shift, plain, _▹_, content, Next, next, marked, State, start, Step, backslash, escapeLast, touching, firstOr, textStep, pieceText, markStep, wrap, lastOr, absent, write, spanNumbers}
+use Rattle.mark_tags.specs.Flat.{around, within, beyond, depthOf, boundAt, slotAt, Fresh, kindNumbered, kindsOf, Held, Ready, Empty}
 use Rattle.mark_pieces.specs.Spans.{marksIn, Writes, Slot, SlotWritten, markAt, MarkWritten}
 use Rattle.mark_writing.proofs.Slotting.{code, spelled, front-within, front-beyond, around-within, around-beyond, at-text, at-leave, at-gone, at-mark, at-end, no-text, some-text}
 use Rattle.mark_writing.proofs.Drawing.{▹-assoc, plain-▹, ▹-plain, appends-if, writes-none, writes-plain, writes-then}
+
+-- a backslash before the last byte goes by what the test says of that byte
+escape-same : (f g : ℕ → Bool) (even : Bool) (d : ℕ) (p : List Cell) → f (lastOr d p) ≡ g (lastOr d p) → escapeLast f even p ≡ escapeLast g even p
+unfolding escapeLast lastOr
+escape-same f g even d [] e = refl
+escape-same f g even d (c ∷ []) e = ap (λ (b : Bool). backslash (b && even) ++ (c ∷ [])) e
+escape-same f g even d (c ∷ x ∷ p) e = ap (λ (l : List Cell). c ∷ l) (escape-same f g (not (eqb (c .byte) 92 && even)) (c .byte) (x ∷ p) e)
+
+piece-same : (guarded m n : Bool) (p : List Cell) → touching m (lastOr absent p) ≡ touching n (lastOr absent p) → pieceText guarded m p ≡ pieceText guarded n p
+unfolding pieceText
+piece-same guarded m n p e = ap (λ (l : List Cell). backslash (guarded && is "}" (firstOr absent p)) ++ l) (escape-same (touching m) (touching n) true absent p e)
 
 text-step : (p : List Cell) (d : Cell) (r : List Cell) (n : Next) (st : State) → p ≡ d ∷ r
     → textStep p n st ≡ record { wrote = plain (pieceText (st .guarded) (marked n) p); state = record { before = lastOr absent p; guarded = false } }
@@ -140,11 +152,11 @@ module _ (src ns : List ℕ) (k from mask : ℕ) (v₀ : List Cell) (at₀ : ℕ
           let e : within (slotAt src ns k i) ≡ text [] later = texted ∙ ap (λ (p : List Cell). text p later) (no-text src ns k i t q l) in
           on (i + 1) (omega arith) (omega arith) (λ s. ap (λ (u : Items). write u s) e ∙ plain-▹ (write later s)) texted-beyond fresh-later (let y = marks-later in omega arith)
 
-      pub drawn-text : (v' : List Cell) (to' r before' : ℕ) → length v' ≡ length v → length v ≡ length v₀ → boundAt ns (length src) i < boundAt ns (length src) (i + 1)
-          → NextIs (next later) r → Appends v to v' to' (pieceText guarded (eqb r 257) (spelled src ns k i q)) → before' ≡ lastOr absent (spelled src ns k i q) → before' ≤ 256
+      pub drawn-text : (v' : List Cell) (to' : ℕ) (touches : Bool) (before' : ℕ) → length v' ≡ length v → length v ≡ length v₀ → boundAt ns (length src) i < boundAt ns (length src) (i + 1)
+          → touching touches before' ≡ touching (marked (next later)) before' → Appends v to v' to' (pieceText guarded touches (spelled src ns k i q)) → before' ≡ lastOr absent (spelled src ns k i q) → before' ≤ 256
           → Drawing src ns k from mask v₀ at₀ ss₀ c₀ v' to' ss c (i + 1) before' false
       unfolding write textStep
-      drawn-text v' to' r before' lv lv₀ l n a eb sb =
+      drawn-text v' to' touches before' lv lv₀ l n a eb sb =
           let s = some-text src ns k i t q l in
           let fw = m .forward in
           let rm = m .few in
@@ -152,7 +164,7 @@ module _ (src ns : List ℕ) (k from mask : ℕ) (v₀ : List Cell) (at₀ : ℕ
           let step = textStep (spelled src ns k i q) (next later) (m .st) in
           let stepped : step ≡ record { wrote = plain (pieceText (m .st .guarded) (marked (next later)) (spelled src ns k i q)); state = record { before = lastOr absent (spelled src ns k i q); guarded = false } } = text-step (spelled src ns k i q) _ _ (next later) (m .st) s in
           let a' : Appends v to v' to' (pieceText (m .st .guarded) (marked (next later)) (spelled src ns k i q)) =
-          appends-if (pieceText (m .st .guarded) (marked (next later)) (spelled src ns k i q)) lv (λ h. ap₂ (λ (g b : Bool). pieceText g b (spelled src ns k i q)) (m .state h .1) (n .touches)) a in
+          appends-if (pieceText (m .st .guarded) (marked (next later)) (spelled src ns k i q)) lv (λ h. ap (λ (g : Bool). pieceText g touches (spelled src ns k i q)) (m .state h .1) ∙ piece-same (m .st .guarded) touches (marked (next later)) (spelled src ns k i q) (subst (λ (b : ℕ). touching touches b ≡ touching (marked (next later)) b) eb n)) a in
           let wr : Writes v to ss c v' to' ss c (step .wrote) = subst (λ (u : Step). Writes v to ss c v' to' ss c (u .wrote)) (sym stepped) (writes-plain ss c (pieceText (m .st .guarded) (marked (next later)) (spelled src ns k i q)) a') in
           record {
             forward = omega arith;

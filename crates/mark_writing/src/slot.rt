@@ -2,6 +2,7 @@
 use mark_items::items::bit_of;
 use mark_pieces::mark::delimiter_of;
 use mark_pieces::mark::finish_mark;
+use mark_pieces::piece::is_touching;
 use mark_pieces::piece::write_piece;
 use text::PostAt;
 use text::TextAt;
@@ -10,7 +11,9 @@ ghost use mathlib.Core.Path.{_≡_};
 ghost use mathlib.Core.Bool.{cond};
 ghost use lib.Dec.{eqb};
 ghost use Rattle.text.specs.Cells.{cells};
-ghost use Rattle.mark_tags.specs.Marks.{next};
+ghost use Prim.Native.Nat.{_-_, _≤_, _<_};
+ghost use lib.ListN.{length, getD};
+ghost use Rattle.mark_tags.specs.Marks.{next, marked, touching};
 ghost use Rattle.mark_tags.specs.Flat.{within, slotAt, NextIs, Ready, Answer};
 ghost use Rattle.mark_pieces.specs.Spans.{Slot, SlotWritten, MarkReady, MarkWritten};
 
@@ -73,6 +76,18 @@ pub fn next_of(text: &[u8], nums: &[u32], k: usize, from: usize, depth: usize) -
         }
     }
     256
+}
+
+// Whether a mark is written next behind a text piece that ends at e, as far as its last byte has to do with that: if not, nothing is looked for.
+fn touches_mark(text: &[u8], nums: &[u32], k: usize, from: usize, depth: usize, e: usize) -> bool
+    requires { ⌜ Ready (now text) (now nums) k from depth × ((0 < e) × (e ≤ length (now text))) ⌝ }
+    ensures { λ r. ⌜ touching r (getD (now (text .entry)) (e - 1) 0) ≡ touching (marked (next (within (slotAt (now (text .entry)) (now (nums .entry)) k from)))) (getD (now (text .entry)) (e - 1) 0) ⌝ }
+{
+    if is_touching(true, text[e - 1]) {
+        let next = next_of(text, nums, k, from, depth);
+        return next == 257;
+    }
+    false
 }
 
 // Where writing a slot ended: the item behind it, the place in the text, how many span numbers are listed.
@@ -216,14 +231,14 @@ pub fn write_slot(
             let a = nums[n + i] as usize;
             let e = nums[n + (i + 1)] as usize;
             if a < e {
-                let next = next_of(text, nums, k, i + 1, depth);
+                let touches = touches_mark(text, nums, k, i + 1, depth, e);
                 let behind = write_piece(
                     text,
                     nums,
                     PostAt(a),
                     PostAt(e),
                     guarded,
-                    next == 257,
+                    touches,
                     out,
                     origins,
                     TextAt(to),

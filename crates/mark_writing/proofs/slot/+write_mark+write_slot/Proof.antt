@@ -36,6 +36,7 @@ use Rattle.mark_writing.proofs.slot.content.Reads as content-reads
 use Rattle.mark_writing.proofs.slot.last_of.Reads as last-of-reads
 use Rattle.mark_writing.proofs.slot.next_byte.Reads as next-byte-reads
 use Rattle.mark_writing.proofs.slot.next_of.Reads as next-of-reads
+use Rattle.mark_writing.proofs.slot.touches_mark.Reads as touches-mark-reads
 use Rattle.text.proofs.write.put_sign.Reads as put-sign-reads
 use Rattle.mark_writing.proofs.slot.+write_mark+write_slot.{statement}
 use Rattle.mark_writing.proofs.slot.+write_mark+write_slot.Tie.{close}
@@ -606,8 +607,8 @@ abbrev write-slot-μ-loop : write-slot-lts.MeasureT-loop
 write-slot-μ-loop text nums k from mask out₀ origins₀ spans₀ count n depth i₀ to₀ c₀ before₀ guarded₀ out origins spans i to c before guarded = k - i
 
 write-slot-cast-depth : (t : ℕ) → write-slot-lts.Need-cast-depth (
-  next-of-reads.Asked,
-  next-of-reads.Learnt,
+  touches-mark-reads.Asked,
+  touches-mark-reads.Learnt,
   write-piece-reads.Asked,
   write-piece-reads.Learnt,
   content-reads.Asked,
@@ -618,8 +619,8 @@ write-slot-cast-depth : (t : ℕ) → write-slot-lts.Need-cast-depth (
 write-slot-cast-depth t c = let f = ones-few (c .before .before .before .before .before .args .mask) (c .before .before .before .before .before .pre .1 .small) in omega arith
 
 write-slot-sub-depth : (t : ℕ) → write-slot-lts.Need-sub-depth (
-  next-of-reads.Asked,
-  next-of-reads.Learnt,
+  touches-mark-reads.Asked,
+  touches-mark-reads.Learnt,
   write-piece-reads.Asked,
   write-piece-reads.Learnt,
   content-reads.Asked,
@@ -630,8 +631,8 @@ write-slot-sub-depth : (t : ℕ) → write-slot-lts.Need-sub-depth (
 write-slot-sub-depth t c = let f = ones-few (c .before .before .before .before .before .args .mask) (c .before .before .before .before .before .pre .1 .small) in omega arith
 
 write-slot-loop-holds : (t : ℕ) → write-slot-lts.Need-loop-holds (
-  next-of-reads.Asked,
-  next-of-reads.Learnt,
+  touches-mark-reads.Asked,
+  touches-mark-reads.Learnt,
   write-piece-reads.Asked,
   write-piece-reads.Learnt,
   content-reads.Asked,
@@ -642,8 +643,8 @@ write-slot-loop-holds : (t : ℕ) → write-slot-lts.Need-loop-holds (
 write-slot-loop-holds t c = (refl, refl, refl, drawing-start _ _ _ _ _ _ _ _ _ _ _ (c .before .before .before .before .before .pre .1))
 
 write-slot-mul-code : (t : ℕ) → write-slot-lts.Need-mul-code (
-  next-of-reads.Asked,
-  next-of-reads.Learnt,
+  touches-mark-reads.Asked,
+  touches-mark-reads.Learnt,
   write-piece-reads.Asked,
   write-piece-reads.Learnt,
   content-reads.Asked,
@@ -654,8 +655,8 @@ write-slot-mul-code : (t : ℕ) → write-slot-lts.Need-mul-code (
 write-slot-mul-code t c = let l = c .before .loop in let s = c .before .before .before .before .before .before .before .pre .1 in let tb = s .table in let sm = tb .small in let rm = tb .room in let fw = tb .few in search needs
 
 write-slot-add-code : (t : ℕ) → write-slot-lts.Need-add-code (
-  next-of-reads.Asked,
-  next-of-reads.Learnt,
+  touches-mark-reads.Asked,
+  touches-mark-reads.Learnt,
   write-piece-reads.Asked,
   write-piece-reads.Learnt,
   content-reads.Asked,
@@ -666,8 +667,8 @@ write-slot-add-code : (t : ℕ) → write-slot-lts.Need-add-code (
 write-slot-add-code t c = let l = c .before .loop in let s = c .before .before .before .before .before .before .before .pre .1 in let tb = s .table in let sm = tb .small in let rm = tb .room in let fw = tb .few in search needs
 
 write-slot-add-code-2 : (t : ℕ) → write-slot-lts.Need-add-code-2 (
-  next-of-reads.Asked,
-  next-of-reads.Learnt,
+  touches-mark-reads.Asked,
+  touches-mark-reads.Learnt,
   write-piece-reads.Asked,
   write-piece-reads.Learnt,
   content-reads.Asked,
@@ -678,8 +679,8 @@ write-slot-add-code-2 : (t : ℕ) → write-slot-lts.Need-add-code-2 (
 write-slot-add-code-2 t c = let l = c .before .loop in let s = c .before .before .before .before .before .before .before .pre .1 in let tb = s .table in let sm = tb .small in let rm = tb .room in let fw = tb .few in search needs
 
 write-slot-mul-code-2 : (t : ℕ) → write-slot-lts.Need-mul-code-2 (
-  next-of-reads.Asked,
-  next-of-reads.Learnt,
+  touches-mark-reads.Asked,
+  touches-mark-reads.Learnt,
   write-piece-reads.Asked,
   write-piece-reads.Learnt,
   content-reads.Asked,
@@ -690,8 +691,8 @@ write-slot-mul-code-2 : (t : ℕ) → write-slot-lts.Need-mul-code-2 (
 write-slot-mul-code-2 t c = let l = c .before .loop in let s = c .before .before .before .before .before .before .before .pre .1 in let tb = s .table in let sm = tb .small in let rm = tb .room in let fw = tb .few in search needs
 
 write-slot-shared-slice-read-code : (t : ℕ) → write-slot-lts.Need-shared-slice-read-code (
-  next-of-reads.Asked,
-  next-of-reads.Learnt,
+  touches-mark-reads.Asked,
+  touches-mark-reads.Learnt,
   write-piece-reads.Asked,
   write-piece-reads.Learnt,
   content-reads.Asked,
@@ -702,8 +703,8 @@ write-slot-shared-slice-read-code : (t : ℕ) → write-slot-lts.Need-shared-sli
 write-slot-shared-slice-read-code t c = let l = c .before .before .loop in let s = c .before .before .before .before .before .before .before .before .pre .1 in let tb = s .table in let sm = tb .small in let rm = tb .room in let fw = tb .few in search needs
 
 write-slot-add-t34 : (t : ℕ) → write-slot-lts.Need-add-t34 (
-  next-of-reads.Asked,
-  next-of-reads.Learnt,
+  touches-mark-reads.Asked,
+  touches-mark-reads.Learnt,
   write-piece-reads.Asked,
   write-piece-reads.Learnt,
   content-reads.Asked,
@@ -714,8 +715,8 @@ write-slot-add-t34 : (t : ℕ) → write-slot-lts.Need-add-t34 (
 write-slot-add-t34 t c = let l = c .before .before .before .loop in let s = c .before .before .before .before .before .before .before .before .before .pre .1 in let tb = s .table in let sm = tb .small in let rm = tb .room in let fw = tb .few in search needs
 
 write-slot-same-length : (t : ℕ) → write-slot-lts.Need-same-length (
-  next-of-reads.Asked,
-  next-of-reads.Learnt,
+  touches-mark-reads.Asked,
+  touches-mark-reads.Learnt,
   write-piece-reads.Asked,
   write-piece-reads.Learnt,
   content-reads.Asked,
@@ -726,8 +727,8 @@ write-slot-same-length : (t : ℕ) → write-slot-lts.Need-same-length (
 write-slot-same-length t c = search needs
 
 write-slot-same-length-2 : (t : ℕ) → write-slot-lts.Need-same-length-2 (
-  next-of-reads.Asked,
-  next-of-reads.Learnt,
+  touches-mark-reads.Asked,
+  touches-mark-reads.Learnt,
   write-piece-reads.Asked,
   write-piece-reads.Learnt,
   content-reads.Asked,
@@ -738,8 +739,8 @@ write-slot-same-length-2 : (t : ℕ) → write-slot-lts.Need-same-length-2 (
 write-slot-same-length-2 t c = search needs
 
 write-slot-same-length-3 : (t : ℕ) → write-slot-lts.Need-same-length-3 (
-  next-of-reads.Asked,
-  next-of-reads.Learnt,
+  touches-mark-reads.Asked,
+  touches-mark-reads.Learnt,
   write-piece-reads.Asked,
   write-piece-reads.Learnt,
   content-reads.Asked,
@@ -750,8 +751,8 @@ write-slot-same-length-3 : (t : ℕ) → write-slot-lts.Need-same-length-3 (
 write-slot-same-length-3 t c = search needs
 
 write-slot-returns : (t : ℕ) → write-slot-lts.Need-returns (
-  next-of-reads.Asked,
-  next-of-reads.Learnt,
+  touches-mark-reads.Asked,
+  touches-mark-reads.Learnt,
   write-piece-reads.Asked,
   write-piece-reads.Learnt,
   content-reads.Asked,
@@ -766,8 +767,8 @@ write-slot-returns t c =
     drawn-leave (a .text .now) (a .nums .now) (a .k) (a .from) (a .mask) _ _ _ _ _ _ _ _ (l .i) (l .before) (l .guarded) (l .inv .3) (omega arith) (c .if1 .taken)
 
 write-slot-add-a : (t : ℕ) → write-slot-lts.Need-add-a (
-  next-of-reads.Asked,
-  next-of-reads.Learnt,
+  touches-mark-reads.Asked,
+  touches-mark-reads.Learnt,
   write-piece-reads.Asked,
   write-piece-reads.Learnt,
   content-reads.Asked,
@@ -778,8 +779,8 @@ write-slot-add-a : (t : ℕ) → write-slot-lts.Need-add-a (
 write-slot-add-a t c = let l = c .before .before .before .before .loop in let s = c .before .before .before .before .before .before .before .before .before .before .pre .1 in let tb = s .table in let sm = tb .small in let rm = tb .room in let fw = tb .few in search needs
 
 write-slot-mul-a : (t : ℕ) → write-slot-lts.Need-mul-a (
-  next-of-reads.Asked,
-  next-of-reads.Learnt,
+  touches-mark-reads.Asked,
+  touches-mark-reads.Learnt,
   write-piece-reads.Asked,
   write-piece-reads.Learnt,
   content-reads.Asked,
@@ -790,8 +791,8 @@ write-slot-mul-a : (t : ℕ) → write-slot-lts.Need-mul-a (
 write-slot-mul-a t c = let l = c .before .before .before .before .loop in let s = c .before .before .before .before .before .before .before .before .before .before .pre .1 in let tb = s .table in let sm = tb .small in let rm = tb .room in let fw = tb .few in search needs
 
 write-slot-shared-slice-read-a : (t : ℕ) → write-slot-lts.Need-shared-slice-read-a (
-  next-of-reads.Asked,
-  next-of-reads.Learnt,
+  touches-mark-reads.Asked,
+  touches-mark-reads.Learnt,
   write-piece-reads.Asked,
   write-piece-reads.Learnt,
   content-reads.Asked,
@@ -802,8 +803,8 @@ write-slot-shared-slice-read-a : (t : ℕ) → write-slot-lts.Need-shared-slice-
 write-slot-shared-slice-read-a t c = let l = c .before .before .before .before .before .loop in let s = c .before .before .before .before .before .before .before .before .before .before .before .pre .1 in let tb = s .table in let sm = tb .small in let rm = tb .room in let fw = tb .few in search needs
 
 write-slot-cast-a : (t : ℕ) → write-slot-lts.Need-cast-a (
-  next-of-reads.Asked,
-  next-of-reads.Learnt,
+  touches-mark-reads.Asked,
+  touches-mark-reads.Learnt,
   write-piece-reads.Asked,
   write-piece-reads.Learnt,
   content-reads.Asked,
@@ -814,8 +815,8 @@ write-slot-cast-a : (t : ℕ) → write-slot-lts.Need-cast-a (
 write-slot-cast-a t c = let l = c .before .before .before .before .before .loop in let a = c .before .before .before .before .before .before .before .before .before .before .before .args in omega (arith, c .shared-slice-known4 .given (length (a .text .now) + l .i))
 
 write-slot-add-e : (t : ℕ) → write-slot-lts.Need-add-e (
-  next-of-reads.Asked,
-  next-of-reads.Learnt,
+  touches-mark-reads.Asked,
+  touches-mark-reads.Learnt,
   write-piece-reads.Asked,
   write-piece-reads.Learnt,
   content-reads.Asked,
@@ -826,8 +827,8 @@ write-slot-add-e : (t : ℕ) → write-slot-lts.Need-add-e (
 write-slot-add-e t c = let l = c .before .before .before .before .before .loop in let s = c .before .before .before .before .before .before .before .before .before .before .before .pre .1 in let tb = s .table in let sm = tb .small in let rm = tb .room in let fw = tb .few in search needs
 
 write-slot-add-e-2 : (t : ℕ) → write-slot-lts.Need-add-e-2 (
-  next-of-reads.Asked,
-  next-of-reads.Learnt,
+  touches-mark-reads.Asked,
+  touches-mark-reads.Learnt,
   write-piece-reads.Asked,
   write-piece-reads.Learnt,
   content-reads.Asked,
@@ -838,8 +839,8 @@ write-slot-add-e-2 : (t : ℕ) → write-slot-lts.Need-add-e-2 (
 write-slot-add-e-2 t c = let l = c .before .before .before .before .before .loop in let s = c .before .before .before .before .before .before .before .before .before .before .before .pre .1 in let tb = s .table in let sm = tb .small in let rm = tb .room in let fw = tb .few in search needs
 
 write-slot-mul-e : (t : ℕ) → write-slot-lts.Need-mul-e (
-  next-of-reads.Asked,
-  next-of-reads.Learnt,
+  touches-mark-reads.Asked,
+  touches-mark-reads.Learnt,
   write-piece-reads.Asked,
   write-piece-reads.Learnt,
   content-reads.Asked,
@@ -850,8 +851,8 @@ write-slot-mul-e : (t : ℕ) → write-slot-lts.Need-mul-e (
 write-slot-mul-e t c = let l = c .before .before .before .before .before .loop in let s = c .before .before .before .before .before .before .before .before .before .before .before .pre .1 in let tb = s .table in let sm = tb .small in let rm = tb .room in let fw = tb .few in search needs
 
 write-slot-shared-slice-read-e : (t : ℕ) → write-slot-lts.Need-shared-slice-read-e (
-  next-of-reads.Asked,
-  next-of-reads.Learnt,
+  touches-mark-reads.Asked,
+  touches-mark-reads.Learnt,
   write-piece-reads.Asked,
   write-piece-reads.Learnt,
   content-reads.Asked,
@@ -862,8 +863,8 @@ write-slot-shared-slice-read-e : (t : ℕ) → write-slot-lts.Need-shared-slice-
 write-slot-shared-slice-read-e t c = let l = c .before .before .before .before .before .before .loop in let s = c .before .before .before .before .before .before .before .before .before .before .before .before .pre .1 in let tb = s .table in let sm = tb .small in let rm = tb .room in let fw = tb .few in search needs
 
 write-slot-cast-e : (t : ℕ) → write-slot-lts.Need-cast-e (
-  next-of-reads.Asked,
-  next-of-reads.Learnt,
+  touches-mark-reads.Asked,
+  touches-mark-reads.Learnt,
   write-piece-reads.Asked,
   write-piece-reads.Learnt,
   content-reads.Asked,
@@ -873,9 +874,9 @@ write-slot-cast-e : (t : ℕ) → write-slot-lts.Need-cast-e (
 ) (write-slot-at t) write-slot.Post write-slot-Inv-loop write-slot-μ-loop
 write-slot-cast-e t c = let l = c .before .before .before .before .before .before .loop in let a = c .before .before .before .before .before .before .before .before .before .before .before .before .args in omega (arith, c .shared-slice-known5 .given (length (a .text .now) + (l .i + 1)))
 
-write-slot-add-next-of : (t : ℕ) → write-slot-lts.Need-add-next-of (
-  next-of-reads.Asked,
-  next-of-reads.Learnt,
+write-slot-add-touches-mark : (t : ℕ) → write-slot-lts.Need-add-touches-mark (
+  touches-mark-reads.Asked,
+  touches-mark-reads.Learnt,
   write-piece-reads.Asked,
   write-piece-reads.Learnt,
   content-reads.Asked,
@@ -883,11 +884,11 @@ write-slot-add-next-of : (t : ℕ) → write-slot-lts.Need-add-next-of (
   write-mark-below t,
   write-mark.Post,
 ) (write-slot-at t) write-slot.Post write-slot-Inv-loop write-slot-μ-loop
-write-slot-add-next-of t c = let l = c .before .before .before .before .before .before .before .loop in let s = c .before .before .before .before .before .before .before .before .before .before .before .before .before .pre .1 in let tb = s .table in let sm = tb .small in let rm = tb .room in let fw = tb .few in search needs
+write-slot-add-touches-mark t c = let l = c .before .before .before .before .before .before .before .loop in let s = c .before .before .before .before .before .before .before .before .before .before .before .before .before .pre .1 in let tb = s .table in let sm = tb .small in let rm = tb .room in let fw = tb .few in search needs
 
-write-slot-next-of-requires : (t : ℕ) → write-slot-lts.Need-next-of-requires (
-  next-of-reads.Asked,
-  next-of-reads.Learnt,
+write-slot-touches-mark-requires : (t : ℕ) → write-slot-lts.Need-touches-mark-requires (
+  touches-mark-reads.Asked,
+  touches-mark-reads.Learnt,
   write-piece-reads.Asked,
   write-piece-reads.Learnt,
   content-reads.Asked,
@@ -895,15 +896,20 @@ write-slot-next-of-requires : (t : ℕ) → write-slot-lts.Need-next-of-requires
   write-mark-below t,
   write-mark.Post,
 ) (write-slot-at t) write-slot.Post write-slot-Inv-loop write-slot-μ-loop
-write-slot-next-of-requires t c κs =
+unfolding boundAt
+write-slot-touches-mark-requires t c κs =
     let l = c .before .before .before .before .before .before .before .loop in
     let a = c .before .before .before .before .before .before .before .before .before .before .before .before .before .args in
     let s = c .before .before .before .before .before .before .before .before .before .before .before .before .before .pre .1 in
-    fresh-ready (a .text .now) (a .nums .now) (a .k) (l .i + 1) (a .mask) (s .table) (omega arith) (s .small) (fresh-later (a .text .now) (a .nums .now) (a .k) (a .from) (a .mask) _ _ _ _ _ _ _ _ (l .i) (l .before) (l .guarded) (l .inv .3) (omega arith) (s .table) (c .before .before .before .if2 .taken))
+    let b = bounds (a .text .now) (a .nums .now) (a .k) (l .i) (s .table) (omega arith) in
+    let lt = c .if3 .taken in (
+      fresh-ready (a .text .now) (a .nums .now) (a .k) (l .i + 1) (a .mask) (s .table) (omega arith) (s .small) (fresh-later (a .text .now) (a .nums .now) (a .k) (a .from) (a .mask) _ _ _ _ _ _ _ _ (l .i) (l .before) (l .guarded) (l .inv .3) (omega arith) (s .table) (c .before .before .before .if2 .taken)),
+      (omega arith, b .1),
+    )
 
 write-slot-write-piece-requires : (t : ℕ) → write-slot-lts.Need-write-piece-requires (
-  next-of-reads.Asked,
-  next-of-reads.Learnt,
+  touches-mark-reads.Asked,
+  touches-mark-reads.Learnt,
   write-piece-reads.Asked,
   write-piece-reads.Learnt,
   content-reads.Asked,
@@ -919,8 +925,8 @@ write-slot-write-piece-requires t c κs =
     let b = bounds (a .text .now) (a .nums .now) (a .k) (l .i) (s .table) (omega arith) in let rm = s .table .room in (c .before .before .before .if3 .taken, (b .1, omega arith))
 
 write-slot-sub-before : (t : ℕ) → write-slot-lts.Need-sub-before (
-  next-of-reads.Asked,
-  next-of-reads.Learnt,
+  touches-mark-reads.Asked,
+  touches-mark-reads.Learnt,
   write-piece-reads.Asked,
   write-piece-reads.Learnt,
   content-reads.Asked,
@@ -931,8 +937,8 @@ write-slot-sub-before : (t : ℕ) → write-slot-lts.Need-sub-before (
 write-slot-sub-before t c = let z = c .before .before .before .before .before .before .before .before .if3 .taken in omega arith
 
 write-slot-shared-slice-read-before : (t : ℕ) → write-slot-lts.Need-shared-slice-read-before (
-  next-of-reads.Asked,
-  next-of-reads.Learnt,
+  touches-mark-reads.Asked,
+  touches-mark-reads.Learnt,
   write-piece-reads.Asked,
   write-piece-reads.Learnt,
   content-reads.Asked,
@@ -948,8 +954,8 @@ write-slot-shared-slice-read-before t c =
     let b = bounds (a .text .now) (a .nums .now) (a .k) (l .i) (s .table) (omega arith) in let rm = s .table .room in let z = c .before .before .before .before .before .before .before .before .before .if3 .taken in omega arith
 
 write-slot-cast-before : (t : ℕ) → write-slot-lts.Need-cast-before (
-  next-of-reads.Asked,
-  next-of-reads.Learnt,
+  touches-mark-reads.Asked,
+  touches-mark-reads.Learnt,
   write-piece-reads.Asked,
   write-piece-reads.Learnt,
   content-reads.Asked,
@@ -960,8 +966,8 @@ write-slot-cast-before : (t : ℕ) → write-slot-lts.Need-cast-before (
 write-slot-cast-before t c = let l = c .before .before .before .before .before .before .before .before .before .before .before .before .before .before .before .before .loop in let a = c .before .before .before .before .before .before .before .before .before .before .before .before .before .before .before .before .before .before .before .before .before .before .args in omega (arith, c .shared-slice-known6 .given (getD (a .nums .now) (length (a .text .now) + (l .i + 1)) 0 - 1))
 
 write-slot-add-i : (t : ℕ) → write-slot-lts.Need-add-i (
-  next-of-reads.Asked,
-  next-of-reads.Learnt,
+  touches-mark-reads.Asked,
+  touches-mark-reads.Learnt,
   write-piece-reads.Asked,
   write-piece-reads.Learnt,
   content-reads.Asked,
@@ -972,8 +978,8 @@ write-slot-add-i : (t : ℕ) → write-slot-lts.Need-add-i (
 write-slot-add-i t c = let l = c .before .before .before .before .before .before .before .before .before .before .before .before .before .before .before .before .loop in let s = c .before .before .before .before .before .before .before .before .before .before .before .before .before .before .before .before .before .before .before .before .before .before .pre .1 in let tb = s .table in let sm = tb .small in let rm = tb .room in let fw = tb .few in search needs
 
 write-slot-loop-less : (t : ℕ) → write-slot-lts.Need-loop-less (
-  next-of-reads.Asked,
-  next-of-reads.Learnt,
+  touches-mark-reads.Asked,
+  touches-mark-reads.Learnt,
   write-piece-reads.Asked,
   write-piece-reads.Learnt,
   content-reads.Asked,
@@ -984,8 +990,8 @@ write-slot-loop-less : (t : ℕ) → write-slot-lts.Need-loop-less (
 write-slot-loop-less t c = let l = c .before .before .before .before .before .before .before .before .before .before .before .before .before .before .before .before .loop in let s = c .before .before .before .before .before .before .before .before .before .before .before .before .before .before .before .before .before .before .before .before .before .before .pre .1 in let tb = s .table in let sm = tb .small in let rm = tb .room in let fw = tb .few in search needs
 
 write-slot-loop-again : (t : ℕ) → write-slot-lts.Need-loop-again (
-  next-of-reads.Asked,
-  next-of-reads.Learnt,
+  touches-mark-reads.Asked,
+  touches-mark-reads.Learnt,
   write-piece-reads.Asked,
   write-piece-reads.Learnt,
   content-reads.Asked,
@@ -999,11 +1005,11 @@ write-slot-loop-again t c =
     let a = c .before .before .before .before .before .before .before .before .before .before .before .before .before .before .before .before .before .before .before .before .before .before .args in
     let s = c .before .before .before .before .before .before .before .before .before .before .before .before .before .before .before .before .before .before .before .before .before .before .pre .1 in
     let b = bounds (a .text .now) (a .nums .now) (a .k) (l .i) (s .table) (omega arith) in let rm = s .table .room in let kp = c .before .before .before .before .before .write-piece .kept in
-    (search needs, search needs, search needs, drawn-text (a .text .now) (a .nums .now) (a .k) (a .from) (a .mask) _ _ _ _ _ _ _ _ (l .i) (l .before) (l .guarded) (l .inv .3) (omega arith) (s .table) (c .before .before .before .before .before .before .before .before .before .before .before .before .if2 .taken) _ _ (c .before .before .before .before .before .before .before .before .next-of .result) _ (cells-kept _ _ _ _ (kp .1 .1 .1 .1 .1 .1 .0) (kp .1 .1 .1 .1 .1 .1 .1 .0) (let e₁ = l .inv .0 in let e₂ = l .inv .1 in let wd = s .wide in omega arith)) (cells-kept _ _ _ _ (l .inv .0) (l .inv .1) (s .wide)) (c .before .before .before .before .before .before .before .before .before .if3 .taken) (c .before .before .before .before .before .before .before .before .next-of .ensures) (c .before .before .before .before .before .write-piece .ensures) (last-piece (a .text .now) (a .nums .now) _ _ (c .before .before .before .before .before .before .before .before .before .if3 .taken) (b .1) (omega arith)) (omega (arith, c .shared-slice-known6 .given (getD (a .nums .now) (length (a .text .now) + (l .i + 1)) 0 - 1))))
+    (search needs, search needs, search needs, drawn-text (a .text .now) (a .nums .now) (a .k) (a .from) (a .mask) _ _ _ _ _ _ _ _ (l .i) (l .before) (l .guarded) (l .inv .3) (omega arith) (s .table) (c .before .before .before .before .before .before .before .before .before .before .before .before .if2 .taken) _ _ (c .before .before .before .before .before .before .before .before .touches-mark .result) _ (cells-kept _ _ _ _ (kp .1 .1 .1 .1 .1 .1 .0) (kp .1 .1 .1 .1 .1 .1 .1 .0) (let e₁ = l .inv .0 in let e₂ = l .inv .1 in let wd = s .wide in omega arith)) (cells-kept _ _ _ _ (l .inv .0) (l .inv .1) (s .wide)) (c .before .before .before .before .before .before .before .before .before .if3 .taken) (c .before .before .before .before .before .before .before .before .touches-mark .ensures) (c .before .before .before .before .before .write-piece .ensures) (last-piece (a .text .now) (a .nums .now) _ _ (c .before .before .before .before .before .before .before .before .before .if3 .taken) (b .1) (omega arith)) (omega (arith, c .shared-slice-known6 .given (getD (a .nums .now) (length (a .text .now) + (l .i + 1)) 0 - 1))))
 
 write-slot-add-i-2 : (t : ℕ) → write-slot-lts.Need-add-i-2 (
-  next-of-reads.Asked,
-  next-of-reads.Learnt,
+  touches-mark-reads.Asked,
+  touches-mark-reads.Learnt,
   write-piece-reads.Asked,
   write-piece-reads.Learnt,
   content-reads.Asked,
@@ -1014,8 +1020,8 @@ write-slot-add-i-2 : (t : ℕ) → write-slot-lts.Need-add-i-2 (
 write-slot-add-i-2 t c = let l = c .before .before .before .before .before .before .before .loop in let s = c .before .before .before .before .before .before .before .before .before .before .before .before .before .pre .1 in let tb = s .table in let sm = tb .small in let rm = tb .room in let fw = tb .few in search needs
 
 write-slot-loop-less-2 : (t : ℕ) → write-slot-lts.Need-loop-less-2 (
-  next-of-reads.Asked,
-  next-of-reads.Learnt,
+  touches-mark-reads.Asked,
+  touches-mark-reads.Learnt,
   write-piece-reads.Asked,
   write-piece-reads.Learnt,
   content-reads.Asked,
@@ -1026,8 +1032,8 @@ write-slot-loop-less-2 : (t : ℕ) → write-slot-lts.Need-loop-less-2 (
 write-slot-loop-less-2 t c = let l = c .before .before .before .before .before .before .before .loop in let s = c .before .before .before .before .before .before .before .before .before .before .before .before .before .pre .1 in let tb = s .table in let sm = tb .small in let rm = tb .room in let fw = tb .few in search needs
 
 write-slot-loop-again-2 : (t : ℕ) → write-slot-lts.Need-loop-again-2 (
-  next-of-reads.Asked,
-  next-of-reads.Learnt,
+  touches-mark-reads.Asked,
+  touches-mark-reads.Learnt,
   write-piece-reads.Asked,
   write-piece-reads.Learnt,
   content-reads.Asked,
@@ -1043,8 +1049,8 @@ write-slot-loop-again-2 t c =
     (search needs, search needs, search needs, drawn-nothing (a .text .now) (a .nums .now) (a .k) (a .from) (a .mask) _ _ _ _ _ _ _ _ (l .i) (l .before) (l .guarded) (l .inv .3) (omega arith) (s .table) (c .before .before .before .if2 .taken) (c .if3 .left))
 
 write-slot-add-i-3 : (t : ℕ) → write-slot-lts.Need-add-i-3 (
-  next-of-reads.Asked,
-  next-of-reads.Learnt,
+  touches-mark-reads.Asked,
+  touches-mark-reads.Learnt,
   write-piece-reads.Asked,
   write-piece-reads.Learnt,
   content-reads.Asked,
@@ -1055,8 +1061,8 @@ write-slot-add-i-3 : (t : ℕ) → write-slot-lts.Need-add-i-3 (
 write-slot-add-i-3 t c = let l = c .before .before .before .before .before .loop in let s = c .before .before .before .before .before .before .before .before .before .before .before .pre .1 in let tb = s .table in let sm = tb .small in let rm = tb .room in let fw = tb .few in search needs
 
 write-slot-loop-less-3 : (t : ℕ) → write-slot-lts.Need-loop-less-3 (
-  next-of-reads.Asked,
-  next-of-reads.Learnt,
+  touches-mark-reads.Asked,
+  touches-mark-reads.Learnt,
   write-piece-reads.Asked,
   write-piece-reads.Learnt,
   content-reads.Asked,
@@ -1067,8 +1073,8 @@ write-slot-loop-less-3 : (t : ℕ) → write-slot-lts.Need-loop-less-3 (
 write-slot-loop-less-3 t c = let l = c .before .before .before .before .before .loop in let s = c .before .before .before .before .before .before .before .before .before .before .before .pre .1 in let tb = s .table in let sm = tb .small in let rm = tb .room in let fw = tb .few in search needs
 
 write-slot-loop-again-3 : (t : ℕ) → write-slot-lts.Need-loop-again-3 (
-  next-of-reads.Asked,
-  next-of-reads.Learnt,
+  touches-mark-reads.Asked,
+  touches-mark-reads.Learnt,
   write-piece-reads.Asked,
   write-piece-reads.Learnt,
   content-reads.Asked,
@@ -1083,8 +1089,8 @@ write-slot-loop-again-3 t c =
     (search needs, search needs, search needs, drawn-gone (a .text .now) (a .nums .now) (a .k) (a .from) (a .mask) _ _ _ _ _ _ _ _ (l .i) (l .before) (l .guarded) (l .inv .3) (omega arith) (c .before .if2 .left) (c .before .before .if1 .left) (c .if4 .taken))
 
 write-slot-add-content : (t : ℕ) → write-slot-lts.Need-add-content (
-  next-of-reads.Asked,
-  next-of-reads.Learnt,
+  touches-mark-reads.Asked,
+  touches-mark-reads.Learnt,
   write-piece-reads.Asked,
   write-piece-reads.Learnt,
   content-reads.Asked,
@@ -1095,8 +1101,8 @@ write-slot-add-content : (t : ℕ) → write-slot-lts.Need-add-content (
 write-slot-add-content t c = let l = c .before .before .before .before .before .loop in let s = c .before .before .before .before .before .before .before .before .before .before .before .pre .1 in let tb = s .table in let sm = tb .small in let rm = tb .room in let fw = tb .few in search needs
 
 write-slot-sub-content : (t : ℕ) → write-slot-lts.Need-sub-content (
-  next-of-reads.Asked,
-  next-of-reads.Learnt,
+  touches-mark-reads.Asked,
+  touches-mark-reads.Learnt,
   write-piece-reads.Asked,
   write-piece-reads.Learnt,
   content-reads.Asked,
@@ -1111,8 +1117,8 @@ write-slot-sub-content t c =
     let d = mark-deep (a .text .now) (a .nums .now) (a .k) (l .i) _ (l .i) (here-start (a .text .now) (a .nums .now) (a .k) (l .i) _ (fresh-ready (a .text .now) (a .nums .now) (a .k) (l .i) (a .mask) (s .table) (omega arith) (s .small) (l .inv .3 .fresh))) (omega arith) (c .if4 .left) in omega arith
 
 write-slot-content-requires : (t : ℕ) → write-slot-lts.Need-content-requires (
-  next-of-reads.Asked,
-  next-of-reads.Learnt,
+  touches-mark-reads.Asked,
+  touches-mark-reads.Learnt,
   write-piece-reads.Asked,
   write-piece-reads.Learnt,
   content-reads.Asked,
@@ -1127,8 +1133,8 @@ write-slot-content-requires t c κs =
     mark-ready (a .text .now) (a .nums .now) (a .k) (l .i) _ (l .i) (here-start (a .text .now) (a .nums .now) (a .k) (l .i) _ (fresh-ready (a .text .now) (a .nums .now) (a .k) (l .i) (a .mask) (s .table) (omega arith) (s .small) (l .inv .3 .fresh))) (omega arith) (c .if4 .left)
 
 write-slot-write-mark-requires : (t : ℕ) → write-slot-lts.Need-write-mark-requires (
-  next-of-reads.Asked,
-  next-of-reads.Learnt,
+  touches-mark-reads.Asked,
+  touches-mark-reads.Learnt,
   write-piece-reads.Asked,
   write-piece-reads.Learnt,
   content-reads.Asked,
@@ -1152,8 +1158,8 @@ write-slot-write-mark-requires t c κs =
     )
 
 write-slot-loop-less-4 : (t : ℕ) → write-slot-lts.Need-loop-less-4 (
-  next-of-reads.Asked,
-  next-of-reads.Learnt,
+  touches-mark-reads.Asked,
+  touches-mark-reads.Learnt,
   write-piece-reads.Asked,
   write-piece-reads.Learnt,
   content-reads.Asked,
@@ -1168,8 +1174,8 @@ write-slot-loop-less-4 t c =
     let f = c .before .before .before .before .before .before .write-mark .ensures .forward in omega arith
 
 write-slot-loop-again-4 : (t : ℕ) → write-slot-lts.Need-loop-again-4 (
-  next-of-reads.Asked,
-  next-of-reads.Learnt,
+  touches-mark-reads.Asked,
+  touches-mark-reads.Learnt,
   write-piece-reads.Asked,
   write-piece-reads.Learnt,
   content-reads.Asked,
@@ -1185,8 +1191,8 @@ write-slot-loop-again-4 t c =
     (search needs, search needs, search needs, drawn-mark (a .text .now) (a .nums .now) (a .k) (a .from) (a .mask) _ _ _ _ _ _ _ _ (l .i) (l .before) (l .guarded) (l .inv .3) (omega arith) (c .before .before .before .before .before .before .before .before .before .before .before .before .if4 .left) _ _ _ _ _ _ _ (cells-kept _ _ _ _ (kp .1 .1 .1 .1 .1 .1 .0) (kp .1 .1 .1 .1 .1 .1 .1 .0) (let e₁ = l .inv .0 in let e₂ = l .inv .1 in let wd = s .wide in omega arith)) (cells-kept _ _ _ _ (l .inv .0) (l .inv .1) (s .wide)) (kp .1 .1 .1 .1 .1 .1 .1 .1 .1 .0) (c .before .before .before .before .before .before .before .before .before .before .before .content .ensures .some (c .before .before .before .before .before .before .before .before .before .before .if5 .taken)) (spans-few _ _) (c .before .before .before .before .before .before .write-mark .ensures))
 
 write-slot-sub-i : (t : ℕ) → write-slot-lts.Need-sub-i (
-  next-of-reads.Asked,
-  next-of-reads.Learnt,
+  touches-mark-reads.Asked,
+  touches-mark-reads.Learnt,
   write-piece-reads.Asked,
   write-piece-reads.Learnt,
   content-reads.Asked,
@@ -1197,8 +1203,8 @@ write-slot-sub-i : (t : ℕ) → write-slot-lts.Need-sub-i (
 write-slot-sub-i t c = let z = c .if5 .left in omega arith
 
 write-slot-loop-less-5 : (t : ℕ) → write-slot-lts.Need-loop-less-5 (
-  next-of-reads.Asked,
-  next-of-reads.Learnt,
+  touches-mark-reads.Asked,
+  touches-mark-reads.Learnt,
   write-piece-reads.Asked,
   write-piece-reads.Learnt,
   content-reads.Asked,
@@ -1216,8 +1222,8 @@ write-slot-loop-less-5 t c =
     omega arith
 
 write-slot-loop-again-5 : (t : ℕ) → write-slot-lts.Need-loop-again-5 (
-  next-of-reads.Asked,
-  next-of-reads.Learnt,
+  touches-mark-reads.Asked,
+  touches-mark-reads.Learnt,
   write-piece-reads.Asked,
   write-piece-reads.Learnt,
   content-reads.Asked,
@@ -1233,8 +1239,8 @@ write-slot-loop-again-5 t c =
     (search needs, search needs, search needs, drawn-empty (a .text .now) (a .nums .now) (a .k) (a .from) (a .mask) _ _ _ _ _ _ _ _ (l .i) (l .before) (l .guarded) (l .inv .3) (omega arith) (c .before .before .if4 .left) _ (c .before .content .ensures .empty (c .before .content .result - 1) (omega arith)))
 
 write-slot-same-length-4 : (t : ℕ) → write-slot-lts.Need-same-length-4 (
-  next-of-reads.Asked,
-  next-of-reads.Learnt,
+  touches-mark-reads.Asked,
+  touches-mark-reads.Learnt,
   write-piece-reads.Asked,
   write-piece-reads.Learnt,
   content-reads.Asked,
@@ -1245,8 +1251,8 @@ write-slot-same-length-4 : (t : ℕ) → write-slot-lts.Need-same-length-4 (
 write-slot-same-length-4 t c = search needs
 
 write-slot-same-length-5 : (t : ℕ) → write-slot-lts.Need-same-length-5 (
-  next-of-reads.Asked,
-  next-of-reads.Learnt,
+  touches-mark-reads.Asked,
+  touches-mark-reads.Learnt,
   write-piece-reads.Asked,
   write-piece-reads.Learnt,
   content-reads.Asked,
@@ -1257,8 +1263,8 @@ write-slot-same-length-5 : (t : ℕ) → write-slot-lts.Need-same-length-5 (
 write-slot-same-length-5 t c = search needs
 
 write-slot-same-length-6 : (t : ℕ) → write-slot-lts.Need-same-length-6 (
-  next-of-reads.Asked,
-  next-of-reads.Learnt,
+  touches-mark-reads.Asked,
+  touches-mark-reads.Learnt,
   write-piece-reads.Asked,
   write-piece-reads.Learnt,
   content-reads.Asked,
@@ -1269,8 +1275,8 @@ write-slot-same-length-6 : (t : ℕ) → write-slot-lts.Need-same-length-6 (
 write-slot-same-length-6 t c = search needs
 
 write-slot-returns-2 : (t : ℕ) → write-slot-lts.Need-returns-2 (
-  next-of-reads.Asked,
-  next-of-reads.Learnt,
+  touches-mark-reads.Asked,
+  touches-mark-reads.Learnt,
   write-piece-reads.Asked,
   write-piece-reads.Learnt,
   content-reads.Asked,
@@ -1331,8 +1337,8 @@ pub +write-mark+write-slot-spec : {M : Type 1} → statement M
     (write-mark-same-length-6 t)
     (write-mark-returns-2 t))
     λ t. write-slot-lts.spec (
-      next-of-reads.Asked,
-      next-of-reads.Learnt,
+      touches-mark-reads.Asked,
+      touches-mark-reads.Learnt,
       write-piece-reads.Asked,
       write-piece-reads.Learnt,
       content-reads.Asked,
@@ -1366,8 +1372,8 @@ pub +write-mark+write-slot-spec : {M : Type 1} → statement M
     (write-slot-mul-e t)
     (write-slot-shared-slice-read-e t)
     (write-slot-cast-e t)
-    (write-slot-add-next-of t)
-    (write-slot-next-of-requires t)
+    (write-slot-add-touches-mark t)
+    (write-slot-touches-mark-requires t)
     (write-slot-write-piece-requires t)
     (write-slot-sub-before t)
     (write-slot-shared-slice-read-before t)
