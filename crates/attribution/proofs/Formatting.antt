@@ -12,13 +12,13 @@ use lib.Seq.{length-take-le, take-length, drop-append-seam}
 use borrow.Author.Tests.{lt-ltb, le-ltb}
 use Rattle.text.specs.Cells.{Cell, cells, written, bytes as textOf}
 use Rattle.text.specs.Writes.{Holds, Appends, LaidOut, cleared, padded}
-use Rattle.text.specs.Lent.{checked}
-use Rattle.text.specs.declared.lent.Refusal.{Refusal}
-use Rattle.text.specs.declared.lent.Refusal.the-variants.{NoSpace, TooManyLosses, LossBytesShort}
-use Rattle.text.specs.declared.lent.Lent.{Lent}
-use Rattle.text.specs.declared.lent.Spans.the-variants.{Without}
-use Rattle.text.specs.declared.lent.Checked.{Checked}
-use Rattle.text.specs.declared.lent.Checked.the-variants as C
+use Rattle.lending.specs.Lent.{checked}
+use Rattle.lending.specs.declared.lent.Refusal.{Refusal}
+use Rattle.lending.specs.declared.lent.Refusal.the-variants.{NoSpace, TooManyLosses, LossBytesShort}
+use Rattle.lending.specs.declared.lent.Lent.{Lent}
+use Rattle.lending.specs.declared.lent.Spans.the-variants.{Without}
+use Rattle.lending.specs.declared.lent.Checked.{Checked}
+use Rattle.lending.specs.declared.lent.Checked.the-variants as C
 use Rattle.text.proofs.Clearing.{laid-cleared, cells-bytes}
 use Rattle.text.proofs.Writing.{cells-le, cells-short}
 use Rattle.attribution_parts.specs.Attribution.{caption, losses}

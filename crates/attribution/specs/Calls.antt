@@ -20,13 +20,13 @@ use mathlib.Core.Bool.{cond}
 use mathlib.Core.List.{List, [], _∷_}
 use lib.ListN.{length, take}
 use lib.Dec.{ltb}
-use Rattle.text.specs.Lent.{numberOf, checked}
+use Rattle.lending.specs.Lent.{numberOf, checked}
 use Rattle.text.specs.Writes.{padded}
-use Rattle.text.specs.declared.lent.Refusal.the-variants.{NoSpace, TooManyLosses, LossBytesShort}
-use Rattle.text.specs.declared.lent.Spans.the-variants.{Without}
-use Rattle.text.specs.declared.lent.Lent.{Lent}
-use Rattle.text.specs.declared.lent.Checked.{Checked}
-use Rattle.text.specs.declared.lent.Checked.the-variants as C
+use Rattle.lending.specs.declared.lent.Refusal.the-variants.{NoSpace, TooManyLosses, LossBytesShort}
+use Rattle.lending.specs.declared.lent.Spans.the-variants.{Without}
+use Rattle.lending.specs.declared.lent.Lent.{Lent}
+use Rattle.lending.specs.declared.lent.Checked.{Checked}
+use Rattle.lending.specs.declared.lent.Checked.the-variants as C
 use Rattle.attribution_parts.specs.Attribution.{caption, losses}
 use Rattle.attribution_losses.specs.Lists.{recordsOf, lossWords}
 use Rattle.losses.specs.declared.Loss.{Loss}

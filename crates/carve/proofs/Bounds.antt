@@ -8,12 +8,12 @@ use lib.ListN.{length}
 use lib.Dec.{ltb}
 use borrow.Author.Tests.{ltb-false}
 use Rattle.text.specs.Cells.{Cell, cellsOf}
-use Rattle.text.specs.Lent.{checked}
-use Rattle.text.specs.declared.lent.Refusal.{Refusal}
-use Rattle.text.specs.declared.lent.Lent.{Lent}
-use Rattle.text.specs.declared.lent.Checked.{Checked}
-use Rattle.text.specs.declared.lent.Checked.the-variants as C
-use Rattle.text.proofs.Sizes.{enough}
+use Rattle.lending.specs.Lent.{checked}
+use Rattle.lending.specs.declared.lent.Refusal.{Refusal}
+use Rattle.lending.specs.declared.lent.Lent.{Lent}
+use Rattle.lending.specs.declared.lent.Checked.{Checked}
+use Rattle.lending.specs.declared.lent.Checked.the-variants as C
+use Rattle.lending.proofs.Sizes.{enough}
 use Rattle.text.proofs.Copying.{length-cellsOf}
 use Rattle.list_blocks.specs.Tags.{tooDeep}
 use Rattle.list_blocks.specs.Lists.{lists, listsNeed}
@@ -27,7 +27,7 @@ use Rattle.attribution.specs.declared.Attributed.the-variants as A
 use Rattle.attribution.specs.Calls as Attribution
 use Rattle.quote_blocks.specs.Quotes as Q
 use Rattle.quote_blocks.proofs.QuotesFit.{quotes-fit}
-use Rattle.quotes.specs.Losses.{quoteLosses, lossBytes}
+use Rattle.quote_losses.specs.Losses.{quoteLosses, lossBytes}
 use Rattle.quotes.specs.declared.Quoted.{Quoted}
 use Rattle.quotes.specs.declared.Quoted.the-variants as Qd
 use Rattle.quotes.specs.Calls as Quotes

@@ -13,9 +13,9 @@ use Rattle.attribution_parts.specs.Attribution.{Loss, lossOf, cutIf, cutLast, r
 use Rattle.attribution_parts.specs.declared.Kind.the-variants.{Name, PostId, Id}
 use Rattle.attribution_losses.specs.Lists.{lossWords}
 use Rattle.text.specs.Cells.{Cell, bytes}
-use Rattle.quote_lines.specs.Tags.{openerSize, closerSize, attributionOf}
+use Rattle.quote_tags.specs.Tags.{openerSize, closerSize, attributionOf}
 use Rattle.quote_blocks.specs.Quotes.{Token, tokenOf, restOf, tokens, attributionsIn, attributions}
-use Rattle.quotes.specs.Losses.{lossesIn, quoteLosses, lossBytes}
+use Rattle.quote_losses.specs.Losses.{lossesIn, quoteLosses, lossBytes}
 
 abbrev weight : Part → ℕ
 weight (field key v) = length key

@@ -16,7 +16,7 @@
 use mathlib.Core.Path.{_≡_}
 use Prim.Native.Nat.{ℕ, _≤_}
 use mathlib.Core.List.{List, [], _∷_}
-use Rattle.text.specs.Lent.{numberOf}
+use Rattle.lending.specs.Lent.{numberOf}
 use Rattle.day.specs.declared.Dated.{Dated}
 use Rattle.day.specs.declared.Dated.the-variants.{Done, Refused}
 use Rattle.lists.specs.declared.Listed.{Listed}

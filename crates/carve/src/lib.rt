@@ -2,12 +2,12 @@
 // losses, and the loss bytes (0 where there is no such thing, and on a refusal).
 use attribution::Attributed;
 use day::Dated;
+use lending::lent::number_of;
 use lists::Listed;
 use losses::Loss;
 use marks::Marked;
 use post::Posted;
 use quotes::Quoted;
-use text::lent::number_of;
 ghost use mathlib.Core.Path.{_≡_};
 ghost use mathlib.Core.List.{[], _∷_};
 ghost use Prim.Native.Nat.{_≤_};

@@ -21,7 +21,7 @@ use Rattle.mark_tags.specs.Marks as Marks
 use Rattle.day.specs.Day as Day
 use Rattle.attribution_parts.specs.Parts as Parts
 use Rattle.attribution_parts.specs.Attribution as Attribution
-use Rattle.quote_lines.specs.Tags as QuoteTags
+use Rattle.quote_tags.specs.Tags as QuoteTags
 use Rattle.quote_blocks.specs.Quotes as Quotes
 use Rattle.list_blocks.specs.Tags as ListTags
 use Rattle.list_blocks.specs.Blocks as Blocks

@@ -15,7 +15,7 @@ use Rattle.day.specs.Day.{numberAfter, number, isSeconds, iso, date, lea
 use Rattle.day.specs.declared.Date.{Date}
 use Rattle.day.specs.declared.Dated.{Dated}
 use Rattle.day.specs.declared.Dated.the-variants.{Done, Refused}
-use Rattle.text.specs.declared.lent.Refusal.the-variants.{SizesWrong, NotSeconds}
+use Rattle.lending.specs.declared.lent.Refusal.the-variants.{SizesWrong, NotSeconds}
 use Rattle.text.specs.Writes.{cleared, padded}
 use Rattle.day.proofs.March.{below12, stands, Stands, yearStart, monthStart, leapDay, yearOf, monthOf, marchLength}
 

@@ -17,8 +17,8 @@ use lib.ListN.{length, getD}
 use lib.Dec.{eqb, leb, ltb}
 use Rattle.text.specs.Ascii.{ascii, allDigits}
 use Rattle.text.specs.Writes.{padded}
-use Rattle.text.specs.Lent.{numberOf}
-use Rattle.text.specs.declared.lent.Refusal.the-variants.{SizesWrong, NotSeconds}
+use Rattle.lending.specs.Lent.{numberOf}
+use Rattle.lending.specs.declared.lent.Refusal.the-variants.{SizesWrong, NotSeconds}
 use Rattle.day.specs.declared.Date.{Date}
 use Rattle.day.specs.declared.Dated.{Dated}
 use Rattle.day.specs.declared.Dated.the-variants.{Done, Refused}

@@ -1,6 +1,6 @@
 // Seconds since 1970 as a Gregorian day, YYYY-MM-DD.
+use lending::lent::Refusal;
 use text::TextAt;
-use text::lent::Refusal;
 use text::zero::zero8;
 ghost use mathlib.Core.Path.{_≡_};
 ghost use mathlib.Core.Bool.{true};

@@ -10,18 +10,18 @@ use lib.Dec.{ltb}
 use borrow.Author.Tests.{lt-ltb, le-ltb}
 use Rattle.text.specs.Cells.{Cell, cells, cellsOf, part}
 use Rattle.text.specs.Writes.{LaidOut}
-use Rattle.text.specs.declared.lent.Refusal.the-variants.{TooDeep, NoSpace}
+use Rattle.lending.specs.declared.lent.Refusal.the-variants.{TooDeep, NoSpace}
 use Rattle.lists.specs.declared.Listed.{Listed}
 use Rattle.lists.specs.declared.Listed.the-variants.{Done, Refused}
 use Rattle.list_blocks.specs.Tags.{tooDeep}
 use Rattle.list_blocks.specs.Lists.{lists, listsNeed}
 use Rattle.list_steps.specs.Standing.{Passed}
-use Rattle.text.specs.Lent.{checked}
-use Rattle.text.specs.declared.lent.Refusal.{Refusal}
-use Rattle.text.specs.declared.lent.Lent.{Lent}
-use Rattle.text.specs.declared.lent.Spans.the-variants.{Without}
-use Rattle.text.specs.declared.lent.Checked.{Checked}
-use Rattle.text.specs.declared.lent.Checked.the-variants as C
+use Rattle.lending.specs.Lent.{checked}
+use Rattle.lending.specs.declared.lent.Refusal.{Refusal}
+use Rattle.lending.specs.declared.lent.Lent.{Lent}
+use Rattle.lending.specs.declared.lent.Spans.the-variants.{Without}
+use Rattle.lending.specs.declared.lent.Checked.{Checked}
+use Rattle.lending.specs.declared.lent.Checked.the-variants as C
 use Rattle.lists.specs.Calls.{converted, answerBy, answered, textOf, Called, Converted}
 use Rattle.list_steps.proofs.Needs.{lists-fits}
 

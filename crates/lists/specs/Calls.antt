@@ -10,13 +10,13 @@ use mathlib.Core.List.{List, []}
 use lib.ListN.{length}
 use lib.Dec.{ltb}
 use Rattle.text.specs.Cells.{Cell, cellsOf}
-use Rattle.text.specs.Lent.{checked}
+use Rattle.lending.specs.Lent.{checked}
 use Rattle.text.specs.Writes.{LaidOut}
-use Rattle.text.specs.declared.lent.Refusal.the-variants.{TooDeep, NoSpace}
-use Rattle.text.specs.declared.lent.Spans.the-variants.{Without}
-use Rattle.text.specs.declared.lent.Lent.{Lent}
-use Rattle.text.specs.declared.lent.Checked.{Checked}
-use Rattle.text.specs.declared.lent.Checked.the-variants as C
+use Rattle.lending.specs.declared.lent.Refusal.the-variants.{TooDeep, NoSpace}
+use Rattle.lending.specs.declared.lent.Spans.the-variants.{Without}
+use Rattle.lending.specs.declared.lent.Lent.{Lent}
+use Rattle.lending.specs.declared.lent.Checked.{Checked}
+use Rattle.lending.specs.declared.lent.Checked.the-variants as C
 use Rattle.lists.specs.declared.Listed.{Listed}
 use Rattle.lists.specs.declared.Listed.the-variants.{Done, Refused}
 use Rattle.list_blocks.specs.Tags.{tooDeep}

@@ -1,13 +1,13 @@
 // Lists to Carve text (document 01, "Lists").
 use depth::too_deep;
+use lending::lent::Checked;
+use lending::lent::Lent;
+use lending::lent::Refusal;
+use lending::lent::Spans;
+use lending::lent::check;
 use list_steps::pass::list_pass;
 use text::PostAt;
 use text::blank::number;
-use text::lent::Checked;
-use text::lent::Lent;
-use text::lent::Refusal;
-use text::lent::Spans;
-use text::lent::check;
 use text::source::set_source;
 use text::write::lay_nothing;
 use text::write::lay_part;

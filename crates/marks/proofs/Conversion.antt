@@ -10,13 +10,13 @@ use lib.Seq.{length-take-le}
 use lib.Dec.{leb, ltb}
 use borrow.Author.Tests.{lt-ltb, le-ltb, leb-true}
 use Rattle.text.specs.Cells.{Cell, cells, cellsOf}
-use Rattle.text.specs.Lent.{textMost, outMost, sizesRight, checked}
+use Rattle.lending.specs.Lent.{textMost, outMost, sizesRight, checked}
 use Rattle.text.specs.Writes.{cleared, padded, LaidOut}
-use Rattle.text.specs.declared.lent.Refusal.{Refusal}
-use Rattle.text.specs.declared.lent.Refusal.the-variants.{TextTooLong, SizesWrong, NoSpace}
-use Rattle.text.specs.declared.lent.Spans.the-variants.{Of}
-use Rattle.text.specs.declared.lent.Checked.{Checked}
-use Rattle.text.specs.declared.lent.Checked.the-variants as C
+use Rattle.lending.specs.declared.lent.Refusal.{Refusal}
+use Rattle.lending.specs.declared.lent.Refusal.the-variants.{TextTooLong, SizesWrong, NoSpace}
+use Rattle.lending.specs.declared.lent.Spans.the-variants.{Of}
+use Rattle.lending.specs.declared.lent.Checked.{Checked}
+use Rattle.lending.specs.declared.lent.Checked.the-variants as C
 use Rattle.text.proofs.Writing.{holds-fits}
 use Rattle.text.proofs.Clearing.{cells-bytes, cells-origins, laid-cleared, length-mapped}
 use Rattle.text.proofs.Copying.{length-cellsOf}

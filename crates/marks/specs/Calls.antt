@@ -11,13 +11,13 @@ use mathlib.Core.List.{List, []}
 use lib.ListN.{length}
 use lib.Dec.{ltb}
 use Rattle.text.specs.Cells.{Cell, cellsOf}
-use Rattle.text.specs.Lent.{checked}
+use Rattle.lending.specs.Lent.{checked}
 use Rattle.text.specs.Writes.{padded, LaidOut}
-use Rattle.text.specs.declared.lent.Refusal.the-variants.{NoSpace}
-use Rattle.text.specs.declared.lent.Spans.the-variants.{Of}
-use Rattle.text.specs.declared.lent.Lent.{Lent}
-use Rattle.text.specs.declared.lent.Checked.{Checked}
-use Rattle.text.specs.declared.lent.Checked.the-variants as C
+use Rattle.lending.specs.declared.lent.Refusal.the-variants.{NoSpace}
+use Rattle.lending.specs.declared.lent.Spans.the-variants.{Of}
+use Rattle.lending.specs.declared.lent.Lent.{Lent}
+use Rattle.lending.specs.declared.lent.Checked.{Checked}
+use Rattle.lending.specs.declared.lent.Checked.the-variants as C
 use Rattle.mark_tags.specs.Marks.{Written, plain, marks, spanNumbers}
 use Rattle.marks.specs.declared.Marked.{Marked}
 use Rattle.marks.specs.declared.Marked.the-variants.{Done, Refused}

@@ -8,10 +8,10 @@ use Rattle.text.specs.Ascii as Ascii
 use Rattle.text.specs.Ascii.{ascii}
 use Rattle.text.specs.Blanks as Blanks
 use Rattle.text.specs.Cells as Cells
-use Rattle.text.specs.Utf8 as Utf8
-use Rattle.text.specs.Lent as Lent
-use Rattle.text.specs.declared.lent.Refusal.the-variants.{SizesWrong, NoSpace}
-use Rattle.text.specs.declared.lent.Spans.the-variants.{Of}
+use Rattle.lending.specs.Utf8 as Utf8
+use Rattle.lending.specs.Lent as Lent
+use Rattle.lending.specs.declared.lent.Refusal.the-variants.{SizesWrong, NoSpace}
+use Rattle.lending.specs.declared.lent.Spans.the-variants.{Of}
 use Rattle.mark_tags.specs.Marks as Marks
 use Rattle.marks.specs.declared.Marked.{Marked}
 use Rattle.marks.specs.declared.Marked.the-variants.{Done, Refused}

@@ -1,11 +1,11 @@
 // Tags to marks (document 01, "Tags to marks" and "Writing").
 use leave::leave;
+use lending::lent::Checked;
+use lending::lent::Lent;
+use lending::lent::Refusal;
+use lending::lent::Spans;
+use lending::lent::check;
 use pass::write_marks;
-use text::lent::Checked;
-use text::lent::Lent;
-use text::lent::Refusal;
-use text::lent::Spans;
-use text::lent::check;
 ghost use Prim.Native.Nat.{_+_, _*_, _/_, _≤_};
 ghost use mathlib.Core.Path.{_≡_};
 ghost use lib.ListN.{length};

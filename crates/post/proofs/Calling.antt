@@ -12,12 +12,12 @@ use borrow.Author.Tests.{lt-ltb, le-ltb}
 use Rattle.text.specs.Cells.{Cell, cells, cellsOf, bytes, origins}
 use Rattle.text.specs.Writes.{Holds, cleared, padded, LaidOut}
 use Rattle.text.specs.Origins.{CopiedByOrigin}
-use Rattle.text.specs.Lent.{checked}
-use Rattle.text.specs.declared.lent.Refusal.{Refusal}
-use Rattle.text.specs.declared.lent.Refusal.the-variants.{TooDeep, NoSpace}
-use Rattle.text.specs.declared.lent.Lent.{Lent}
-use Rattle.text.specs.declared.lent.Checked.{Checked}
-use Rattle.text.specs.declared.lent.Checked.the-variants as C
+use Rattle.lending.specs.Lent.{checked}
+use Rattle.lending.specs.declared.lent.Refusal.{Refusal}
+use Rattle.lending.specs.declared.lent.Refusal.the-variants.{TooDeep, NoSpace}
+use Rattle.lending.specs.declared.lent.Lent.{Lent}
+use Rattle.lending.specs.declared.lent.Checked.{Checked}
+use Rattle.lending.specs.declared.lent.Checked.the-variants as C
 use Rattle.text.proofs.Clearing.{laid-cleared}
 use Rattle.text.proofs.Copying.{length-cellsOf}
 use Rattle.text.proofs.Writing.{cells-le, cells-short, holds-fits}
@@ -26,7 +26,7 @@ use Rattle.losses.specs.Records.{recordsLent}
 use Rattle.attribution_parts.specs.Attribution.{caption}
 use Rattle.quote_blocks.specs.Quotes as Quotes
 use Rattle.quote_blocks.proofs.QuotesFit.{quotes-fit}
-use Rattle.quotes.specs.Losses.{quoteLosses, lossBytes, lossRecords}
+use Rattle.quote_losses.specs.Losses.{quoteLosses, lossBytes, lossRecords}
 use Rattle.quotes.specs.Calls.{limited, Filled, Spelled}
 use Rattle.list_blocks.specs.Tags as ListTags
 use Rattle.list_blocks.specs.Lists.{lists, listsNeed}

@@ -23,18 +23,18 @@ use mathlib.Core.List.{List, [], _∷_}
 use lib.ListN.{length, take}
 use lib.Dec.{ltb}
 use Rattle.text.specs.Cells.{Cell}
-use Rattle.text.specs.Lent.{numberOf, checked}
+use Rattle.lending.specs.Lent.{numberOf, checked}
 use Rattle.text.specs.Origins.{CopiedByOrigin}
-use Rattle.text.specs.declared.lent.Refusal.the-variants.{TooDeep, NoSpace}
-use Rattle.text.specs.declared.lent.Spans.the-variants.{Without}
-use Rattle.text.specs.declared.lent.Lent.{Lent}
-use Rattle.text.specs.declared.lent.Checked.{Checked}
-use Rattle.text.specs.declared.lent.Checked.the-variants as C
+use Rattle.lending.specs.declared.lent.Refusal.the-variants.{TooDeep, NoSpace}
+use Rattle.lending.specs.declared.lent.Spans.the-variants.{Without}
+use Rattle.lending.specs.declared.lent.Lent.{Lent}
+use Rattle.lending.specs.declared.lent.Checked.{Checked}
+use Rattle.lending.specs.declared.lent.Checked.the-variants as C
 use Rattle.losses.specs.declared.Loss.{Loss}
 use Rattle.losses.specs.Records.{recordsLent}
 use Rattle.attribution_parts.specs.Attribution.{caption}
 use Rattle.quote_blocks.specs.Quotes as Quotes
-use Rattle.quotes.specs.Losses.{quoteLosses, lossBytes, lossRecords}
+use Rattle.quote_losses.specs.Losses.{quoteLosses, lossBytes, lossRecords}
 use Rattle.quotes.specs.Calls.{limited, Filled}
 use Rattle.list_blocks.specs.Tags as ListTags
 use Rattle.list_blocks.specs.Lists.{lists, listsNeed}

@@ -12,10 +12,10 @@ use borrow.Author.Tests.{le-ltb}
 use Rattle.text.specs.Ascii.{ascii}
 use Rattle.text.specs.Cells.{Cell, sign}
 use Rattle.text.specs.Decimal.{decimal}
-use Rattle.text.specs.Lent.{numberOf}
+use Rattle.lending.specs.Lent.{numberOf}
 use Rattle.text.specs.Writes.{Appends}
-use Rattle.text.specs.declared.lent.Refusal.{Refusal}
-use Rattle.text.specs.declared.lent.Spans.the-variants.{Without}
+use Rattle.lending.specs.declared.lent.Refusal.{Refusal}
+use Rattle.lending.specs.declared.lent.Spans.the-variants.{Without}
 use Rattle.losses.specs.declared.Loss.{Loss}
 use Rattle.post.specs.Calls.{Called}
 use Rattle.post.specs.declared.Posted.{Posted}

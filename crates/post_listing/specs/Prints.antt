@@ -13,12 +13,12 @@ use lib.Dec.{ltb}
 use Rattle.text.specs.Ascii.{ascii}
 use Rattle.text.specs.Cells.{bytes, origins}
 use Rattle.text.specs.Decimal.{decimal}
-use Rattle.text.specs.Lent.{numberOf}
+use Rattle.lending.specs.Lent.{numberOf}
 use Rattle.text.specs.Writes.{padded}
-use Rattle.text.specs.declared.lent.Spans.the-variants.{Without}
+use Rattle.lending.specs.declared.lent.Spans.the-variants.{Without}
 use Rattle.losses.specs.declared.Loss.{Loss}
 use Rattle.losses.specs.Records.{recordsLent}
-use Rattle.quotes.specs.Losses.{lossBytes, lossRecords}
+use Rattle.quote_losses.specs.Losses.{lossBytes, lossRecords}
 use Rattle.chain.specs.Post.{marksText, finished}
 use Rattle.post.specs.Calls.{answered}
 use Rattle.post.specs.declared.Posted.{Posted}

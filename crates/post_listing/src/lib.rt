@@ -1,11 +1,11 @@
 // What the program `thread` prints of a post: the listing of the converted post, or why there is none.
+use lending::lent::number_of;
 use listing::put_listing;
 use listing::put_number;
 use losses::Loss;
 use post::Posted;
 use post::bbcode_to_carve;
 use text::TextAt;
-use text::lent::number_of;
 ghost use mathlib.Core.Path.{_≡_};
 ghost use Prim.Native.Nat.{_≤_, min};
 ghost use lib.ListN.{length};

@@ -10,7 +10,7 @@ use Rattle.text.specs.Cells.{Cell, written, feed, bytes}
 use Rattle.text.specs.Lines.{trim, allBlank, lines}
 use Rattle.text.specs.Split.{Split, done, lost, wrote, Keeps}
 use Rattle.text.proofs.SplitLaws.{append, keeps-all, takes-all, after, behind, taking, copying, written-keeps, trim-keeps, strung, lines-keeps, each-map, joined-keeps}
-use Rattle.quote_lines.specs.Tags.{openerSize, closerSize}
+use Rattle.quote_tags.specs.Tags.{openerSize, closerSize}
 use Rattle.quote_blocks.specs.Quotes.{Token, text, opens, closes, tokenOf, restOf, tokens, takenBy, taken, takenQuotes}
 use Rattle.quote_blocks.specs.Quotes.{quotedLine, quotedLines, captionLine, quoteBlock, Quote, State, start, opening, close, closed, step, finish, run, quotes}
 

@@ -11,7 +11,7 @@ use lib.Dec.{leb, ltb}
 use borrow.Author.Tests.{lt-ltb, le-ltb, leb-true, leb-false}
 use Rattle.text.specs.Ascii.{begins}
 use Rattle.text.specs.Cells.{Cell, bytes, feed}
-use Rattle.quote_lines.specs.Tags.{beginsAny, tagSize, openerSize, closerSize, attributionOf}
+use Rattle.quote_tags.specs.Tags.{beginsAny, tagSize, openerSize, closerSize, attributionOf}
 use Rattle.quote_blocks.specs.Quotes.{Token, text, opens, closes, tokens, tooDeepFrom}
 
 tokens-skip : (k : ℕ) (x : List Cell) → tokens k x ≡ tokens 0 (drop k x)

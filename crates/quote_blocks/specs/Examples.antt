@@ -6,7 +6,7 @@ use Rattle.text.specs.Ascii.{ascii, computes as asciiComputes}
 use Rattle.text.specs.Blanks.{computes as blanksCompute}
 use Rattle.text.specs.Cells.{cellsOf, bytes, computes as cellsCompute}
 use Rattle.text.specs.Lines.{computes as linesCompute}
-use Rattle.quote_lines.specs.Tags.{computes as tagsCompute}
+use Rattle.quote_tags.specs.Tags.{computes as tagsCompute}
 use Rattle.quote_blocks.specs.Quotes.{quoteBlock, quotesNeed, computes as quotesCompute}
 
 -- of a caption and a content

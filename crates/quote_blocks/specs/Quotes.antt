@@ -19,7 +19,7 @@ use lib.Dec.{leb, ltb}
 use Rattle.text.specs.Ascii.{ascii}
 use Rattle.text.specs.Cells.{Cell, written, feed, bytes}
 use Rattle.text.specs.Lines.{trim, allBlank, lines, joined}
-use Rattle.quote_lines.specs.Tags.{openerSize, closerSize, attributionOf}
+use Rattle.quote_tags.specs.Tags.{openerSize, closerSize, attributionOf}
 
 -- ---- tokens
 

@@ -1,8 +1,3 @@
-pub mod Tagging
-pub mod Plain
-pub mod Masking
-pub mod Unmasking
-pub mod Moving
 pub mod Bared
 pub mod Tabling
 pub mod Finding

@@ -13,8 +13,8 @@ use lib.Dec.{eqb, ltb}
 use borrow.Author.Tests.{eqb-true, eq-eqb}
 use Rattle.text.specs.Ascii.{is, begins, small, inside, toFirst, toBracket}
 use Rattle.text.proofs.Bytes.{first-within}
-use Rattle.quote_lines.proofs.Plain.{run-first, opener-plain}
-use Rattle.quote_lines.specs.Tags.{NextBracket, beginsAny, tagSize, upToBracket, openers, openerSize, attributionOf}
+use Rattle.quote_tags.proofs.Plain.{run-first, opener-plain}
+use Rattle.quote_tags.specs.Tags.{NextBracket, beginsAny, tagSize, upToBracket, openers, openerSize, attributionOf}
 use Rattle.quote_lines.specs.Lines.{Tag, bare, lineAfter, tags}
 use Rattle.quote_lines.specs.Tables.{wordsAt, TagAt, noTag, Table, Tabled, Untagged, NextOpener, linesBehind}
 

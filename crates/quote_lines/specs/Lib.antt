@@ -1,4 +1,2 @@
-pub mod Tags
-pub mod Masks
 pub mod Lines
 pub mod Tables

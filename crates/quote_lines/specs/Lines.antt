@@ -12,8 +12,8 @@ use mathlib.Core.List.{List, [], _∷_, _++_}
 use lib.ListN.{length, drop, getD}
 use lib.Dec.{eqb, ltb}
 use Rattle.text.specs.Ascii.{is}
-use Rattle.quote_lines.specs.Tags.{openerSize, attributionOf}
-use Rattle.quote_lines.specs.Masks.{visible}
+use Rattle.quote_tags.specs.Tags.{openerSize, attributionOf}
+use Rattle.quote_tags.specs.Masks.{visible}
 
 pub record Tag : Type 0 where
   pub line : ℕ

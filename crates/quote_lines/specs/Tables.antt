@@ -18,8 +18,8 @@ use mathlib.Core.List.{List, [], _∷_}
 use lib.ListN.{length, take, drop, getD}
 use lib.Dec.{eqb}
 use Rattle.text.specs.Ascii.{is, toBracket}
-use Rattle.quote_lines.specs.Tags.{NextBracket, openerSize}
-use Rattle.quote_lines.specs.Masks.{visible}
+use Rattle.quote_tags.specs.Tags.{NextBracket, openerSize}
+use Rattle.quote_tags.specs.Masks.{visible}
 use Rattle.quote_lines.specs.Lines.{Tag, bare, lineAfter, tags}
 
 unfoldable pub wordsAt : (s ns : List ℕ) → ℕ → List ℕ

@@ -1,4 +1,2 @@
 // Quote tags of a text: reading them, masking what is no markup, and the line of a quote.
-pub mod mask;
 pub mod search;
-pub mod tag;

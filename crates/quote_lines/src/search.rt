@@ -1,8 +1,8 @@
 // The quote tags of the original text, and the line of a converted quote.
-use crate::mask::mask_all;
-use crate::tag::bracket_from;
-use crate::tag::opens_quote;
-use crate::tag::up_to_bracket;
+use quote_tags::mask::mask_all;
+use quote_tags::tag::bracket_from;
+use quote_tags::tag::opens_quote;
+use quote_tags::tag::up_to_bracket;
 use text::PostAt;
 use text::scan::next_bracket;
 use text::scan::next_byte;
@@ -11,7 +11,7 @@ ghost use mathlib.Core.Path.{_≡_};
 ghost use Prim.Native.Nat.{_+_, _-_, _*_, _≤_, _<_};
 ghost use lib.ListN.{length, take, drop};
 ghost use Rattle.text.specs.Ascii.{toBracket};
-ghost use Rattle.quote_lines.specs.Tags.{NextBracket, openerSize};
+ghost use Rattle.quote_tags.specs.Tags.{NextBracket, openerSize};
 ghost use Rattle.quote_lines.specs.Lines.{bare, lineAfter, tags, same, place, nextAfter, lineAt};
 ghost use Rattle.quote_lines.specs.Tables.{wordsAt, WordsAt, TagAt, Table, LinesRead, lineIn, Tabled, NextOpener, linesBehind, PastBackslashes};
 

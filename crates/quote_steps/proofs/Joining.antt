@@ -13,8 +13,8 @@ use Rattle.attribution_parts.specs.Attribution.{caption}
 use Rattle.attribution_losses.specs.Captions.{nameTexts}
 use Rattle.attribution_losses.specs.Lists.{Puts}
 use Rattle.attribution.proofs.Fitting.{texts-within-caption}
-use Rattle.quote_lines.specs.Tags.{openerSize, attributionOf}
-use Rattle.quote_lines.proofs.Tagging.{part-before, opener-within, attribution-none, attribution-at}
+use Rattle.quote_tags.specs.Tags.{openerSize, attributionOf}
+use Rattle.quote_tags.proofs.Tagging.{part-before, opener-within, attribution-none, attribution-at}
 use Rattle.quote_blocks.specs.Quotes.{captionLine, quoteBlock}
 use Rattle.quote_blocks.proofs.Blocks.{past-end}
 use Rattle.quote_steps.proofs.Passing.{cells-front}

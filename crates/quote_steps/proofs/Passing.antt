@@ -18,7 +18,7 @@ use Rattle.text.proofs.Areas.{area-length}
 use Rattle.text.proofs.Clearing.{cells-bytes}
 use Rattle.text.proofs.Sources.{cells-taken}
 use Rattle.quote_blocks.proofs.Reading.{read-opener, read-closer, read-text, read-end}
-use Rattle.quote_lines.specs.Tags.{attributionOf, openerSize, closerSize}
+use Rattle.quote_tags.specs.Tags.{attributionOf, openerSize, closerSize}
 use Rattle.quote_blocks.specs.Quotes.{Token, text, opens, closes, tokens, Quote, State, start, opening, held, total, close, closed, step, finish, run, quotes, finishNeed, runNeed, quotesNeed, quoteBlock, tooDeepFrom, tooDeep}
 use Rattle.quote_steps.proofs.Texts.{run-within, read-run, more-is, more-opened, run-texts, need-texts, texts-needed, deep-texts}
 use Rattle.quote_steps.specs.Passes.{texts, more, Stood, Stands, Closes, ClosesIn, Takes, TakesOne, Leaves, ClosesLast, ClosesAll, Reached, Runs}

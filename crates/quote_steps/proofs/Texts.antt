@@ -9,7 +9,7 @@ use lib.ListN.{length, take, drop, length-append, length-drop}
 use Rattle.text.specs.Ascii.{is, toFirst}
 use Rattle.text.specs.Cells.{Cell, bytes, part}
 use Rattle.text.proofs.Bytes.{first-within}
-use Rattle.quote_lines.proofs.Plain.{run-first, opener-plain, closer-plain}
+use Rattle.quote_tags.proofs.Plain.{run-first, opener-plain, closer-plain}
 use Rattle.quote_blocks.specs.Quotes.{Token, text, tokens, State, held, total, step, run, runNeed, tooDeepFrom}
 use Rattle.quote_steps.specs.Passes.{texts, more}
 

@@ -17,7 +17,7 @@ use mathlib.Core.List.{List, [], _∷_, _++_}
 use lib.ListN.{length, take, drop, getD}
 use Rattle.text.specs.Cells.{Cell, cells, bytes, part}
 use Rattle.text.specs.Writes.{Holds}
-use Rattle.quote_lines.specs.Tags.{attributionOf}
+use Rattle.quote_tags.specs.Tags.{attributionOf}
 use Rattle.quote_blocks.specs.Quotes.{Token, text, tokens, Quote, State, opening, close, step, finish, finishNeed, quotes, quotesNeed}
 
 -- the area is no longer than the output, and behind it there is room for as much again: for the joined texts of an attribution; places fit

@@ -2,7 +2,7 @@
 // `end`; behind that, the joined texts of an attribution. The block is built in the output slices and copied back.
 use attribution_losses::join::join_texts;
 use quote_blocks::block::quote_block;
-use quote_lines::tag::opener_size;
+use quote_tags::tag::opener_size;
 use text::PostAt;
 use text::TextAt;
 use text::area::copy_in;
@@ -13,7 +13,7 @@ ghost use lib.ListN.{length, take, drop, getD};
 ghost use Rattle.text.specs.Cells.{cells, part};
 ghost use Rattle.text.specs.Writes.{Appends};
 ghost use Rattle.attribution_parts.specs.Attribution.{caption};
-ghost use Rattle.quote_lines.specs.Tags.{attributionOf};
+ghost use Rattle.quote_tags.specs.Tags.{attributionOf};
 ghost use Rattle.quote_blocks.specs.Quotes.{quoteBlock};
 ghost use Rattle.quote_steps.specs.Passes.{Lent, ClosesIn, ClosesLast};
 

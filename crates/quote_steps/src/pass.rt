@@ -1,7 +1,7 @@
 // The pass in work memory: the text stands before e, and the open contents one behind another from `base` on, in an area that ends at
 // `end`. Where a content would go past it, the need exceeds the room.
 use crate::close::close_innermost;
-use quote_lines::tag::tag_at;
+use quote_tags::tag::tag_at;
 use text::PostAt;
 use text::TextAt;
 use text::area::copy_within;
@@ -13,7 +13,7 @@ ghost use Prim.Native.Nat.{_+_, _-_, _≤_, _<_};
 ghost use lib.ListN.{length, take, drop};
 ghost use Rattle.text.specs.Cells.{cells};
 ghost use Rattle.attribution_parts.specs.Attribution.{caption};
-ghost use Rattle.quote_lines.specs.Tags.{NextBracket, openerSize};
+ghost use Rattle.quote_tags.specs.Tags.{NextBracket, openerSize};
 ghost use Rattle.quote_blocks.specs.Quotes.{quotesMost, tooDeep, quotes, quotesNeed};
 ghost use Rattle.quote_steps.specs.Passes.{Lent, ClosesAll, TakesOne, Runs, Leaves};
 

@@ -11,23 +11,23 @@ use lib.Dec.{ltb}
 use borrow.Author.Tests.{lt-ltb, le-ltb, ltb-false}
 use Rattle.text.specs.Cells.{Cell, cells, cellsOf, bytes, part}
 use Rattle.text.specs.Writes.{cleared, LaidOut}
-use Rattle.text.specs.declared.lent.Refusal.{Refusal}
-use Rattle.text.specs.declared.lent.Refusal.the-variants.{NoSpace}
-use Rattle.text.specs.declared.lent.Checked.{Checked}
-use Rattle.text.specs.declared.lent.Checked.the-variants as C
+use Rattle.lending.specs.declared.lent.Refusal.{Refusal}
+use Rattle.lending.specs.declared.lent.Refusal.the-variants.{NoSpace}
+use Rattle.lending.specs.declared.lent.Checked.{Checked}
+use Rattle.lending.specs.declared.lent.Checked.the-variants as C
 use Rattle.text.proofs.Clearing.{laid-cleared}
 use Rattle.text.proofs.Sources.{cells-taken, source-front}
 use Rattle.losses.specs.declared.Loss.{Loss}
 use Rattle.losses.specs.Records.{recordsLent}
 use Rattle.attribution_parts.specs.Attribution.{caption}
-use Rattle.quote_lines.specs.Masks.{visible}
+use Rattle.quote_tags.specs.Masks.{visible}
 use Rattle.quote_lines.specs.Lines.{tags, linesOf}
 use Rattle.quote_blocks.specs.Quotes.{tooDeep, quotes, quotesNeed}
 use Rattle.quote_blocks.proofs.QuotesFit.{quotes-fit}
 use Rattle.quote_steps.specs.Passes.{Leaves}
 use Rattle.quotes.specs.declared.Quoted.{Quoted}
 use Rattle.quotes.specs.declared.Quoted.the-variants.{Done, Refused}
-use Rattle.quotes.specs.Losses.{quoteLosses, lossBytes, lossRecords, ListsLosses}
+use Rattle.quote_losses.specs.Losses.{quoteLosses, lossBytes, lossRecords, ListsLosses}
 use Rattle.quotes.specs.Calls.{limited, spaced, answerBy, converted, lossesBy, Filled, Called, Noted, Answers, Numbered, Spelled}
 
 -- ---- losses

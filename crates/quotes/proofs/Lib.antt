@@ -1,3 +1,1 @@
-pub mod Depths
-pub mod Recording
 pub mod Conversion

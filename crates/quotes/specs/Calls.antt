@@ -22,20 +22,20 @@ use mathlib.Core.List.{List, [], _∷_}
 use lib.ListN.{length, take}
 use lib.Dec.{ltb}
 use Rattle.text.specs.Cells.{Cell, cellsOf}
-use Rattle.text.specs.Lent.{numberOf, checked}
+use Rattle.lending.specs.Lent.{numberOf, checked}
 use Rattle.text.specs.Writes.{padded, LaidOut}
-use Rattle.text.specs.declared.lent.Refusal.the-variants.{TooDeep, NoSpace, TooManyLosses, LossBytesShort}
-use Rattle.text.specs.declared.lent.Spans.the-variants.{Without}
-use Rattle.text.specs.declared.lent.Lent.{Lent}
-use Rattle.text.specs.declared.lent.Checked.{Checked}
-use Rattle.text.specs.declared.lent.Checked.the-variants as C
+use Rattle.lending.specs.declared.lent.Refusal.the-variants.{TooDeep, NoSpace, TooManyLosses, LossBytesShort}
+use Rattle.lending.specs.declared.lent.Spans.the-variants.{Without}
+use Rattle.lending.specs.declared.lent.Lent.{Lent}
+use Rattle.lending.specs.declared.lent.Checked.{Checked}
+use Rattle.lending.specs.declared.lent.Checked.the-variants as C
 use Rattle.losses.specs.declared.Loss.{Loss}
 use Rattle.losses.specs.Records.{recordsLent}
 use Rattle.attribution_parts.specs.Attribution.{caption}
 use Rattle.quote_blocks.specs.Quotes.{tooDeep, quotes, quotesNeed}
 use Rattle.quotes.specs.declared.Quoted.{Quoted}
 use Rattle.quotes.specs.declared.Quoted.the-variants.{Done, Refused}
-use Rattle.quotes.specs.Losses.{quoteLosses, lossBytes, lossRecords}
+use Rattle.quote_losses.specs.Losses.{quoteLosses, lossBytes, lossRecords}
 
 abbrev pub limited : (deep many long : Bool) → Checked
 limited deep many long = cond deep (C.Refused TooDeep) (cond many (C.Refused TooManyLosses) (cond long (C.Refused LossBytesShort) C.Fine))

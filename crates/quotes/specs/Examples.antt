@@ -9,11 +9,11 @@ use Rattle.text.specs.Ascii.{ascii, computes as asciiComputes}
 use Rattle.text.specs.Blanks.{computes as blanksCompute}
 use Rattle.text.specs.Cells.{Cell, cellsOf, bytes, origins, computes as cellsCompute}
 use Rattle.text.specs.Lines.{computes as linesCompute}
-use Rattle.quote_lines.specs.Tags.{computes as tagsCompute}
+use Rattle.quote_tags.specs.Tags.{computes as tagsCompute}
 use Rattle.quote_blocks.specs.Quotes.{quotes, quotesNeed, tooDeep, takenQuotes, computes as quotesCompute}
-use Rattle.quote_lines.specs.Masks.{visible, computes as masksCompute}
+use Rattle.quote_tags.specs.Masks.{visible, computes as masksCompute}
 use Rattle.quote_lines.specs.Lines.{linesOf, computes as searchComputes}
-use Rattle.quotes.specs.Losses.{lossRecords, lossBytes, computes as lossesCompute}
+use Rattle.quote_losses.specs.Losses.{lossRecords, lossBytes, computes as lossesCompute}
 use Rattle.quotes.specs.Calls.{converted, numberOfAnswer, countsOfAnswer, computes as callsCompute}
 use Rattle.day.specs.Day.{computes as dayComputes}
 use Rattle.attribution_parts.specs.Parts.{computes as partsCompute}

@@ -1,19 +1,19 @@
 // Quotes to Carve text (document 01, "Quotes").
 use attribution_losses::loss::Counts;
-use deep::is_too_deep;
-use loss::list_losses;
+use lending::lent::Checked;
+use lending::lent::Lent;
+use lending::lent::Refusal;
+use lending::lent::Spans;
+use lending::lent::check;
 use losses::Loss;
 use losses::fill;
 use quote_lines::search::read_lines;
+use quote_losses::deep::is_too_deep;
+use quote_losses::loss::list_losses;
 use quote_steps::pass::quote_pass;
 use text::PostAt;
 use text::TextAt;
 use text::blank::number;
-use text::lent::Checked;
-use text::lent::Lent;
-use text::lent::Refusal;
-use text::lent::Spans;
-use text::lent::check;
 use text::source::set_source;
 use text::write::lay_nothing;
 use text::write::lay_part;
@@ -25,15 +25,12 @@ ghost use Prim.Native.Nat.{_+_, _-_, _*_, _≤_};
 ghost use lib.ListN.{length, take};
 ghost use Rattle.text.specs.Cells.{cells, cellsOf, part};
 ghost use Rattle.text.specs.Writes.{cleared, LaidOut};
-ghost use Rattle.quote_lines.specs.Masks.{visible};
+ghost use Rattle.quote_tags.specs.Masks.{visible};
 ghost use Rattle.quote_lines.specs.Lines.{tags};
 ghost use Rattle.quote_blocks.specs.Quotes.{tooDeep};
-ghost use Rattle.quotes.specs.Losses.{ListsLosses};
+ghost use Rattle.quote_losses.specs.Losses.{ListsLosses};
 ghost use Rattle.quotes.specs.Calls.{limited, spaced, converted, lossesBy, Filled, Called, Noted, Answers, Numbered, Spelled};
 ghost use Rattle.quotes.specs.declared.Quoted.the-variants.{Done, Refused};
-
-pub mod deep;
-pub mod loss;
 
 // The length of the text, the number of losses and the length of the loss bytes; or why there is no text.
 pub enum Quoted {

@@ -6,9 +6,7 @@ pub mod Bytes
 pub mod Numbering
 pub mod Trimming
 pub mod Decimals
-pub mod Lending
 pub mod SplitLaws
 pub mod Copying
 pub mod Areas
 pub mod Sources
-pub mod Sizes

@@ -1,5 +1,4 @@
 pub mod Ascii
-pub mod Utf8
 pub mod Blanks
 pub mod Cells
 pub mod Lines
@@ -7,5 +6,4 @@ pub mod Decimal
 pub mod Writes
 pub mod Split
 pub mod Origins
-pub mod Lent
 pub mod Examples

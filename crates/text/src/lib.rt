@@ -1,11 +1,9 @@
 // Text with origins: what every pass reads and writes.
 pub mod area;
 pub mod blank;
-pub mod lent;
 pub mod scan;
 pub mod source;
 pub mod trim;
-pub mod utf8;
 pub mod write;
 pub mod zero;
 

@@ -12,7 +12,7 @@ use Rattle.carve.proofs.carve_day.Reads as reads
 use Rattle.carve.proofs.carve_day.Lts as lts
 use Rattle.carve.proofs.set_counts.Reads as set-counts-reads
 use Rattle.day.proofs.unix_seconds_date.Reads as unix-seconds-date-reads
-use Rattle.text.proofs.lent.number_of.Reads as number-of-reads
+use Rattle.lending.proofs.lent.number_of.Reads as number-of-reads
 
 unix-seconds-date-requires : tie.Need-unix-seconds-date-requires
 unix-seconds-date-requires c κs = search needs

@@ -12,7 +12,7 @@ use Rattle.carve.proofs.carve_lists.Reads as reads
 use Rattle.carve.proofs.carve_lists.Lts as lts
 use Rattle.carve.proofs.set_counts.Reads as set-counts-reads
 use Rattle.lists.proofs.convert_lists.Reads as convert-lists-reads
-use Rattle.text.proofs.lent.number_of.Reads as number-of-reads
+use Rattle.lending.proofs.lent.number_of.Reads as number-of-reads
 
 convert-lists-requires : tie.Need-convert-lists-requires
 convert-lists-requires c κs = search needs

@@ -12,7 +12,7 @@ use Rattle.carve.proofs.carve_marks.Reads as reads
 use Rattle.carve.proofs.carve_marks.Lts as lts
 use Rattle.carve.proofs.set_counts.Reads as set-counts-reads
 use Rattle.marks.proofs.convert_marks.Reads as convert-marks-reads
-use Rattle.text.proofs.lent.number_of.Reads as number-of-reads
+use Rattle.lending.proofs.lent.number_of.Reads as number-of-reads
 
 convert-marks-requires : tie.Need-convert-marks-requires
 convert-marks-requires c κs = search needs

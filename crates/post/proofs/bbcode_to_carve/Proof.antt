@@ -54,7 +54,7 @@ use Rattle.losses.proofs.fill.Symbol as fill-def
 use Rattle.losses.proofs.fill.Symbol.{name as #losses·fill}
 use Rattle.losses.proofs.fill.Met as fill-thm
 use Rattle.post.specs.declared.Posted.{Posted}
-use Rattle.text.specs.declared.lent.Spans.the-variants.{Without}
+use Rattle.lending.specs.declared.lent.Spans.the-variants.{Without}
 use Rattle.post.specs.Calls.{lossesBy, Called, Copied, Numbered}
 use Rattle.post.proofs.Calling.{called, copied}
 use Rattle.post.proofs.Posted as S

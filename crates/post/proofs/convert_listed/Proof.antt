@@ -4,7 +4,7 @@ use mathlib.Core.Path.{_≡_, refl, sym, ap, _∙_}
 use Prim.Native.Nat.{ℕ, suc, _+_, _-_, _*_, _≤_, _<_}
 use mathlib.Core.List.{List, [], _∷_, _++_}
 use lib.ListN.{length, getD}
-use Rattle.text.proofs.Sizes.{enough}
+use Rattle.lending.proofs.Sizes.{enough}
 use Rattle.post.specs.Calls.{answered}
 use Rattle.post.proofs.Calling.{ends-refused, ends-as, answer-refused, answer-fine, refused-noted}
 use Rattle.post.proofs.convert_listed.Statement.{statement}

@@ -8,7 +8,7 @@ use lib.ListN.{take}
 use lib.Seq.{length-take-le}
 use Rattle.text.specs.Cells.{cells}
 use Rattle.text.proofs.Clearing.{cells-bytes}
-use Rattle.quotes.proofs.Recording.{back-long}
+use Rattle.quote_losses.proofs.Recording.{back-long}
 use Rattle.quotes.proofs.Conversion.{spelled-there, records-there, listed-counts, within}
 use Rattle.post.proofs.Calling.{ends-refused, ends-as, ends-spelled, marked-by, answer-refused, answer-fine, refused-noted, quoting-noted}
 use Rattle.post.proofs.convert_marked.Statement.{statement}

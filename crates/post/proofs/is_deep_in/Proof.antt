@@ -9,7 +9,7 @@ use Rattle.post.proofs.is_deep_in.Statement.{statement}
 use Rattle.post.proofs.is_deep_in.Tie as tie
 use Rattle.post.proofs.is_deep_in.Reads as reads
 use Rattle.post.proofs.is_deep_in.Lts as lts
-use Rattle.quotes.proofs.deep.is_too_deep.Reads as is-too-deep-reads
+use Rattle.quote_losses.proofs.deep.is_too_deep.Reads as is-too-deep-reads
 
 -- src/lib.rt:124:17
 slice-aggregate-is-too-deep : tie.Need-slice-aggregate-is-too-deep

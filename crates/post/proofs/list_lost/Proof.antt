@@ -5,7 +5,7 @@ use Prim.Native.Nat.{ℕ, suc, _+_, _-_, _*_, _≤_, _<_}
 use mathlib.Core.List.{List, [], _∷_, _++_}
 use lib.ListN.{length, getD}
 use lib.Seq.{length-take-le}
-use Rattle.quotes.proofs.Recording.{front-kept, front-long, back-is, same-table, lists-as}
+use Rattle.quote_losses.proofs.Recording.{front-kept, front-long, back-is, same-table, lists-as}
 use Rattle.post.proofs.list_lost.Statement.{statement}
 use Rattle.post.proofs.list_lost.Tie as tie
 use Rattle.post.proofs.list_lost.Reads as reads

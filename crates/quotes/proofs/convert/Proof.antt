@@ -7,13 +7,13 @@ use lib.ListN.{length, getD}
 use lib.Seq.{length-take-le}
 use Rattle.text.specs.Cells.{cellsOf}
 use Rattle.text.proofs.Copying.{bytes-cellsOf}
-use Rattle.quotes.proofs.Recording.{back-long}
+use Rattle.quote_losses.proofs.Recording.{back-long}
 use Rattle.quotes.proofs.Conversion.{spelled-there, records-there, listed-counts, within, converted-by, answers-refused, answers-fine, refused-noted, spaced-noted}
 use Rattle.quotes.proofs.convert.Statement.{statement}
 use Rattle.quotes.proofs.convert.Tie as tie
 use Rattle.quotes.proofs.convert.Reads as reads
 use Rattle.quotes.proofs.convert.Lts as lts
-use Rattle.quotes.proofs.deep.is_too_deep.Reads as is-too-deep-reads
+use Rattle.quote_losses.proofs.deep.is_too_deep.Reads as is-too-deep-reads
 use Rattle.quotes.proofs.list_own.Reads as list-own-reads
 use Rattle.quotes.proofs.refusal_of.Reads as refusal-of-reads
 use Rattle.quotes.proofs.refuse.Reads as refuse-reads

@@ -4,7 +4,7 @@ use mathlib.Core.Path.{_≡_, refl, sym, ap, _∙_}
 use Prim.Native.Nat.{ℕ, suc, _+_, _-_, _≤_, _<_}
 use mathlib.Core.List.{List, [], _∷_, _++_}
 use lib.ListN.{length, getD}
-use Rattle.text.proofs.Sizes.{enough}
+use Rattle.lending.proofs.Sizes.{enough}
 use Rattle.quotes.specs.Calls.{answered}
 use Rattle.quotes.proofs.Conversion.{answers-refused, answers-fine, refused-noted}
 use Rattle.quotes.proofs.convert_listed.Statement.{statement}
@@ -13,7 +13,7 @@ use Rattle.quotes.proofs.convert_listed.Reads as reads
 use Rattle.quotes.proofs.convert_listed.Lts as lts
 use Rattle.quotes.proofs.convert.Reads as convert-reads
 use Rattle.quotes.proofs.refuse.Reads as refuse-reads
-use Rattle.text.proofs.lent.check.Reads as check-reads
+use Rattle.lending.proofs.lent.check.Reads as check-reads
 
 -- src/lib.rt:193:9
 check-requires : tie.Need-check-requires

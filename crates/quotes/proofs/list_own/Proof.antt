@@ -5,13 +5,13 @@ use Prim.Native.Nat.{ℕ, suc, _+_, _-_, _≤_, _<_}
 use mathlib.Core.List.{List, [], _∷_, _++_}
 use lib.ListN.{length, getD}
 use lib.Seq.{length-take-le}
-use Rattle.quotes.proofs.Recording.{front-kept, front-long, back-is, same-table, lists-as}
+use Rattle.quote_losses.proofs.Recording.{front-kept, front-long, back-is, same-table, lists-as}
 use Rattle.quotes.proofs.list_own.Statement.{statement}
 use Rattle.quotes.proofs.list_own.Tie as tie
 use Rattle.quotes.proofs.list_own.Reads as reads
 use Rattle.quotes.proofs.list_own.Lts as lts
 use Rattle.quote_lines.proofs.search.read_lines.Reads as read-lines-reads
-use Rattle.quotes.proofs.loss.list_losses.Reads as list-losses-reads
+use Rattle.quote_losses.proofs.loss.list_losses.Reads as list-losses-reads
 
 -- src/lib.rt:69:38
 mul-read-lines : tie.Need-mul-read-lines

@@ -4,9 +4,9 @@ use mathlib.Core.Path.{_≡_, refl, sym, ap, _∙_}
 use Prim.Native.Nat.{ℕ, suc, _+_, _-_, _≤_, _<_}
 use mathlib.Core.List.{List, [], _∷_, _++_}
 use lib.ListN.{length, getD}
-use Rattle.quote_lines.proofs.Plain.{bracket-past}
+use Rattle.quote_tags.proofs.Plain.{bracket-past}
 use Rattle.quote_lines.proofs.Tabling.{untagged, untagged-run, untagged-byte, opener-found, opener-missing}
-use Rattle.quote_lines.specs.Tags.{NextBracket}
+use Rattle.quote_tags.specs.Tags.{NextBracket}
 use Rattle.quote_lines.specs.Tables.{Untagged}
 use Rattle.quote_lines.proofs.search.next_opener.Statement.{statement}
 use Rattle.quote_lines.proofs.search.next_opener.Tie as tie

@@ -7,8 +7,8 @@ use lib.ListN.{length, getD}
 use Prim.Native.Nat.{_*_}
 use lib.ListN.{drop}
 use Rattle.quote_lines.proofs.Tabling.{opener-long, take-less, tabled-on, tabled-last, tabled-opener}
-use Rattle.quote_lines.proofs.Tagging.{behind-within, behind-bracket}
-use Rattle.quote_lines.specs.Tags.{openers, openerSize}
+use Rattle.quote_tags.proofs.Tagging.{behind-within, behind-bracket}
+use Rattle.quote_tags.specs.Tags.{openers, openerSize}
 use Rattle.quote_lines.proofs.search.read_tag.Statement.{statement}
 use Rattle.quote_lines.proofs.search.read_tag.Tie as tie
 use Rattle.quote_lines.proofs.search.read_tag.Reads as reads

@@ -7,7 +7,7 @@ use lib.ListN.{length, getD}
 use lib.ListN.{take}
 use Rattle.quote_lines.proofs.Tabling.{tabled, tabled-end}
 use Rattle.quote_lines.specs.Tables.{Tabled}
-use Rattle.quote_lines.specs.Tags.{NextBracket}
+use Rattle.quote_tags.specs.Tags.{NextBracket}
 use Rattle.quote_lines.proofs.search.read_tags.Statement.{statement}
 use Rattle.quote_lines.proofs.search.read_tags.Tie as tie
 use Rattle.quote_lines.proofs.search.read_tags.Reads as reads

@@ -9,7 +9,7 @@ use Rattle.quote_steps.proofs.close.attribution_of.Statement.{statement
 use Rattle.quote_steps.proofs.close.attribution_of.Tie as tie
 use Rattle.quote_steps.proofs.close.attribution_of.Reads as reads
 use Rattle.quote_steps.proofs.close.attribution_of.Lts as lts
-use Rattle.quote_lines.proofs.tag.opener_size.Reads as opener-size-reads
+use Rattle.quote_tags.proofs.tag.opener_size.Reads as opener-size-reads
 use Rattle.text.proofs.scan.next_bracket.Reads as next-bracket-reads
 
 next-bracket-requires : tie.Need-next-bracket-requires

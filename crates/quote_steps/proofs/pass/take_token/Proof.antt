@@ -9,16 +9,16 @@ use lib.ListN.{take}
 use mathlib.Core.Path.{subst}
 use Rattle.quote_steps.proofs.Passing.{opener-taken, stray-taken, closer-taken, text-taken, appending-keeps}
 use Rattle.quote_steps.proofs.Texts.{run-within}
-use Rattle.quote_lines.proofs.Plain.{bracket-past}
-use Rattle.quote_lines.proofs.Tagging.{bracket-on, behind-within, behind-next}
-use Rattle.quote_lines.specs.Tags.{NextBracket, openers, closers, openerSize, closerSize}
+use Rattle.quote_tags.proofs.Plain.{bracket-past}
+use Rattle.quote_tags.proofs.Tagging.{bracket-on, behind-within, behind-next}
+use Rattle.quote_tags.specs.Tags.{NextBracket, openers, closers, openerSize, closerSize}
 use Rattle.attribution_parts.specs.Attribution.{caption}
 use Rattle.quote_steps.proofs.pass.take_token.Statement.{statement}
 use Rattle.quote_steps.proofs.pass.take_token.Tie as tie
 use Rattle.quote_steps.proofs.pass.take_token.Reads as reads
 use Rattle.quote_steps.proofs.pass.take_token.Lts as lts
 use Rattle.quote_steps.proofs.close.close_innermost.Reads as close-innermost-reads
-use Rattle.quote_lines.proofs.tag.tag_at.Reads as tag-at-reads
+use Rattle.quote_tags.proofs.tag.tag_at.Reads as tag-at-reads
 use Rattle.text.proofs.area.copy_within.Reads as copy-within-reads
 use Rattle.text.proofs.scan.next_byte.Reads as next-byte-reads
 

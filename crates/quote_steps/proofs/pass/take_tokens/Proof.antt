@@ -7,7 +7,7 @@ use lib.ListN.{length, getD}
 use lib.ListN.{take}
 use lib.Seq.{length-take-le}
 use Rattle.quote_steps.proofs.Passing.{RunningIn, run-start, run-room, run-done, run-on, run-full}
-use Rattle.quote_lines.specs.Tags.{NextBracket}
+use Rattle.quote_tags.specs.Tags.{NextBracket}
 use Rattle.attribution_parts.specs.Attribution.{caption}
 use Rattle.quote_steps.proofs.pass.take_tokens.Statement.{statement}
 use Rattle.quote_steps.proofs.pass.take_tokens.Tie as tie

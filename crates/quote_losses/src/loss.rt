@@ -1,0 +1,126 @@
+// The losses of a text's quotes in the order of their openers, each with its line in the original text. They are listed in lent slices; what
+// does not fit is counted, so refusals 7 and 8 are decided by the counts. The numbers of their records stand before a place `base` of the work
+// numbers, and the tags of the original text from there on.
+use attribution_losses::loss::Counts;
+use attribution_losses::loss::put_losses;
+use quote_lines::search::attribution_size;
+use quote_lines::search::line_of;
+use quote_tags::tag::tag_at;
+use text::PostAt;
+use text::scan::next_bracket;
+ghost use mathlib.Core.Path.{_≡_};
+ghost use Prim.Native.Nat.{_≤_, _<_};
+ghost use lib.ListN.{length, take, drop};
+ghost use Rattle.quote_tags.specs.Tags.{NextBracket};
+ghost use Rattle.quote_lines.specs.Lines.{tags};
+ghost use Rattle.quote_lines.specs.Tables.{Table};
+ghost use Rattle.quote_losses.specs.Losses.{ListsToken, FewAt, ListsLosses};
+
+// A place in the text and the place of the next `]`; the number of the next quote, the tag that its search begins at, and the losses and
+// loss bytes before the place.
+pub struct Listing {
+    pub at: PostAt,
+    pub bracket: PostAt,
+    pub quote: usize,
+    pub next: usize,
+    pub losses: usize,
+    pub bytes: usize,
+}
+
+// Lists the losses of the token at a place; `post` is the masked original text.
+fn list_token(
+    source: &[u8],
+    post: &[u8],
+    numbers: &mut [u32],
+    base: usize,
+    count: usize,
+    from: Listing,
+    loss_bytes: &mut [u8],
+) -> Listing
+    requires { ⌜ ((from .at .0 < length (now source)) × (length (now source) ≤ 16777216)) × ((NextBracket (now source) (from .at .0) (from .bracket .0) × FewAt (from .at .0) (from .quote) (from .losses) (from .bytes)) × (Table (now post) (drop base (now numbers)) 0 count × (base ≤ length (now numbers)))) ⌝ }
+    ensures { λ r. ⌜ ((((from .at .0 < r .at .0) × (r .at .0 ≤ length (now (source .entry)))) × (NextBracket (now (source .entry)) (r .at .0) (r .bracket .0) × FewAt (r .at .0) (r .quote) (r .losses) (r .bytes))) × ListsToken (now (source .entry)) (tags 1 0 (now (post .entry))) (take base (now (numbers .entry))) (now («loss_bytes» .entry)) (from .at .0) (from .quote) (from .next) (from .losses) (from .bytes) (take base (now (numbers .exit))) (now («loss_bytes» .exit)) (r .at .0) (r .quote) (r .next) (r .losses) (r .bytes)) × (drop base (now (numbers .exit)) ≡ drop base (now (numbers .entry))) ⌝ }
+{
+    let at = from.at;
+    let known = from.bracket;
+    let quote = from.quote;
+    let next = from.next;
+    let losses = from.losses;
+    let bytes = from.bytes;
+    let i = at.0;
+    let tag = tag_at(source, at, known);
+    let bracket = tag.bracket;
+    let k = tag.opener;
+    if k != 0 {
+        let a = i + 7;
+        let e = a + attribution_size(k);
+        let found = line_of(post, &numbers[base..], 0, count, next, &source[a..e]);
+        let c = put_losses(
+            &source[a..e],
+            quote as u32,
+            found.line,
+            &mut numbers[..base],
+            losses,
+            loss_bytes,
+            bytes,
+        );
+        return Listing {
+            at: PostAt(i + k),
+            bracket,
+            quote: quote + 1,
+            next: found.next,
+            losses: c.losses,
+            bytes: c.bytes,
+        };
+    }
+    let j = tag.closer;
+    if j != 0 {
+        return Listing {
+            at: PostAt(i + j),
+            bracket,
+            quote,
+            next,
+            losses,
+            bytes,
+        };
+    }
+    Listing {
+        at: PostAt(i + 1),
+        bracket,
+        quote,
+        next,
+        losses,
+        bytes,
+    }
+}
+
+// Lists the losses of all quotes of a text.
+pub fn list_losses(
+    source: &[u8],
+    post: &[u8],
+    numbers: &mut [u32],
+    base: usize,
+    count: usize,
+    loss_bytes: &mut [u8],
+) -> Counts
+    requires { ⌜ (length (now source) ≤ 16777216) × (Table (now post) (drop base (now numbers)) 0 count × (base ≤ length (now numbers))) ⌝ }
+    ensures { λ r. ⌜ ListsLosses (now (source .entry)) (tags 1 0 (now (post .entry))) (take base (now (numbers .entry))) (now («loss_bytes» .entry)) (take base (now (numbers .exit))) (now («loss_bytes» .exit)) (r .losses) (r .bytes) ⌝ }
+{
+    let mut st = Listing {
+        at: PostAt(0),
+        bracket: next_bracket(source, PostAt(0)),
+        quote: 1,
+        next: 0,
+        losses: 0,
+        bytes: 0,
+    };
+    let mut i: usize = 0;
+    while i < source.len() {
+        st = list_token(source, post, numbers, base, count, st, loss_bytes);
+        let at = st.at;
+        i = at.0;
+    }
+    Counts {
+        losses: st.losses,
+        bytes: st.bytes,
+    }
+}

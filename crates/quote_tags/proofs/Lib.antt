@@ -1,0 +1,5 @@
+pub mod Tagging
+pub mod Plain
+pub mod Masking
+pub mod Unmasking
+pub mod Moving

@@ -1,0 +1,97 @@
+-- Laws of bytes that no tag begins with: runs without `[`, and other second bytes. Assumes nothing.
+use mathlib.Core.Path.{_≡_, refl, sym, ap, _∙_}
+use Prim.Native.Nat.{ℕ, zero, suc, _+_, _-_, _≤_, _<_}
+use native.Mathlib.Nat.{le-of-suc-le-suc, not-suc-le-zero}
+use native.Mathlib.Omega.{arith}
+use mathlib.Core.Bool.{Bool, true, false, cond, _&&_, _||_}
+use mathlib.Core.List.{List, [], _∷_}
+use lib.ListN.{length, drop, getD}
+use lib.Seq.{getD-drop}
+use lib.Dec.{eqb}
+use borrow.Author.Tests.{ne-eqb, eqb-false}
+use Rattle.text.specs.Ascii.{is, inside, small, begins, toFirst, toBracket}
+use Rattle.text.proofs.Bytes.{inside-true, look, look-past}
+use Rattle.quote_tags.specs.Tags.{NextBracket, beginsAny, tagSize, openers, closers, openerSize, closerSize}
+use Rattle.quote_tags.proofs.Tagging.{tag-not}
+
+-- ---- another first byte
+
+small-open : (b : ℕ) → (b ≡ 91 → ⊥) → small b ≡ 91 → ⊥
+unfolding small
+small-open b n e = by (inside 65 90 b) refl e
+  where
+    by : (t : Bool) → inside 65 90 b ≡ t → cond t (b + 32) b ≡ 91 → ⊥
+    by true p q = let z = inside-true 65 90 b p in omega (arith, z .0, q)
+    by false p q = n q
+
+-- each word begins with `[`
+abbrev pub Bracketed : List (List ℕ) → Type 0
+Bracketed [] = Unit
+Bracketed (w ∷ ws) = (getD w 0 0 ≡ 91) × Bracketed ws
+
+first-other : (w : List ℕ) (b : ℕ) (x : List ℕ) → getD w 0 0 ≡ 91 → (b ≡ 91 → ⊥) → begins w (b ∷ x) ≡ false
+unfolding begins
+first-other [] b x e n = absurd (omega (arith, e))
+first-other (a ∷ w) b x e n = rw (ne-eqb (small b) a (λ q. small-open b n (q ∙ e)))
+
+any-other : (ws : List (List ℕ)) (b : ℕ) (x : List ℕ) → Bracketed ws → (b ≡ 91 → ⊥) → beginsAny ws (b ∷ x) ≡ false
+unfolding beginsAny
+any-other [] b x h n = refl
+any-other (w ∷ ws) b x (e, h) n = rw (first-other w b x e n) (any-other ws b x h n)
+
+module _ (b : ℕ) (x : List ℕ) (n : b ≡ 91 → ⊥) where
+  pub size-plain : (ws : List (List ℕ)) → Bracketed ws → 0 ≡ tagSize ws (b ∷ x)
+  size-plain ws h = tag-not ws (b ∷ x) (any-other ws b x h n)
+
+  pub opener-plain : openerSize (b ∷ x) ≡ 0
+  unfolding openerSize
+  opener-plain = sym (size-plain openers (refl, (refl, (refl, tt))))
+
+  pub closer-plain : closerSize (b ∷ x) ≡ 0
+  unfolding closerSize
+  closer-plain = sym (size-plain closers (refl, tt))
+
+-- what stands in a run is no `[`
+pub run-first : (n b : ℕ) (x : List ℕ) → suc n ≤ toFirst (is "[") (b ∷ x) → (b ≡ 91 → ⊥) × (n ≤ toFirst (is "[") x)
+unfolding toFirst
+run-first n b x h = by (is "[" b) refl h
+  where
+    by : (t : Bool) → eqb b 91 ≡ t → suc n ≤ cond t 0 (suc (toFirst (is "[") x)) → (b ≡ 91 → ⊥) × (n ≤ toFirst (is "[") x)
+    by true p q = absurd (not-suc-le-zero q)
+    by false p q = (eqb-false b 91 p, le-of-suc-le-suc q)
+
+-- the next `]` of a place is that of a later one before it
+pub bracket-past : (s : List ℕ) (i q : ℕ) {b : ℕ} → i ≤ q → q ≤ length s → NextBracket s i b → NextBracket s q b
+unfolding toBracket
+bracket-past s i q {b} h le nb g =
+    let e : b ≡ i + toFirst (is "]") (drop i s) = nb (omega arith) in
+    let x : i + (q - i) ≡ q = omega arith in
+    let l = look-past (is "]") s i i (q - i) (look (is "]") s i (omega arith)) (omega arith) (omega arith) in
+    e ∙ sym (rw x at (l .ends))
+
+-- ---- another second byte
+
+second-other : (a c : ℕ) (w x : List ℕ) → (small (getD x 1 0) ≡ c → ⊥) → begins (a ∷ c ∷ w) x ≡ false
+unfolding begins
+second-other a c w [] n = refl
+second-other a c w (b ∷ []) n = and-false (eqb (small b) a)
+  where
+    and-false : (t : Bool) → (t && false) ≡ false
+    and-false true = refl
+    and-false false = refl
+second-other a c w (b ∷ d ∷ x) n = rw (ne-eqb (small d) c n) (and-false (eqb (small b) a))
+  where
+    and-false : (t : Bool) → (t && false) ≡ false
+    and-false true = refl
+    and-false false = refl
+
+module _ (s : List ℕ) (i : ℕ) {y t : ℕ} (ey : y ≡ getD s (i + 1) 0) (et : t ≡ small y) where
+  pub second-not : (a c : ℕ) (w : List ℕ) → (t ≡ c → ⊥) → begins (a ∷ c ∷ w) (drop i s) ≡ false
+  second-not a c w n = second-other a c w (drop i s) (λ q. n (et ∙ ap small (ey ∙ sym (getD-drop i s 1 0)) ∙ q))
+
+  pub openers-not : (t ≡ 113 → ⊥) → false ≡ beginsAny openers (drop i s)
+  unfolding beginsAny
+  openers-not n = sym (none _ _ _ (second-not _ _ _ n) (second-not _ _ _ n) (second-not _ _ _ n))
+    where
+      none : (a b c : Bool) → a ≡ false → b ≡ false → c ≡ false → (a || (b || (c || false))) ≡ false
+      none a b c p q r = rw (p, q, r)

@@ -1,0 +1,29 @@
+use borrow.Author.Needs.{needs}
+use native.Mathlib.Omega.{arith}
+use mathlib.Core.Path.{_≡_, refl, sym, ap, _∙_}
+use Prim.Native.Nat.{ℕ, suc, _+_, _-_, _≤_, _<_}
+use mathlib.Core.List.{List, [], _∷_, _++_}
+use lib.ListN.{length, getD}
+use Rattle.quote_tags.proofs.Tagging.{tag-is, tag-not}
+use Rattle.quote_tags.proofs.mask.size_of_either.Statement.{statement}
+use Rattle.quote_tags.proofs.mask.size_of_either.Tie as tie
+use Rattle.quote_tags.proofs.mask.size_of_either.Reads as reads
+use Rattle.quote_tags.proofs.mask.size_of_either.Lts as lts
+use Rattle.quote_tags.proofs.mask.begins_either.Reads as begins-either-reads
+use Rattle.quote_tags.proofs.tag.up_to_bracket.Reads as up-to-bracket-reads
+
+begins-either-requires : tie.Need-begins-either-requires
+begins-either-requires c κs = search needs
+
+up-to-bracket-requires : tie.Need-up-to-bracket-requires
+up-to-bracket-requires c κs = search needs
+
+returns : tie.Need-returns
+returns c = tag-is _ _ (sym (c .before .before .begins-either .ensures) ∙ c .before .if1 .taken) (c .up-to-bracket .ensures)
+
+returns-2 : tie.Need-returns-2
+returns-2 c = tag-not _ _ (sym (c .before .begins-either .ensures) ∙ c .if1 .left)
+
+pub size-of-either-spec : {M : Type 1} → statement M
+size-of-either-spec =
+    tie.close (tie.spec begins-either-requires up-to-bracket-requires returns returns-2)

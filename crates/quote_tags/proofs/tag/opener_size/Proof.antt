@@ -1,0 +1,31 @@
+use borrow.Author.Needs.{needs}
+use native.Mathlib.Omega.{arith}
+use mathlib.Core.Path.{_≡_, refl, sym, ap, _∙_}
+use Prim.Native.Nat.{ℕ, suc, _+_, _-_, _≤_, _<_}
+use mathlib.Core.List.{List, [], _∷_, _++_}
+use lib.ListN.{length, getD}
+use Rattle.quote_tags.proofs.Tagging.{tag-is, tag-not}
+use Rattle.quote_tags.specs.Tags.{openerSize}
+use Rattle.quote_tags.proofs.tag.opener_size.Statement.{statement}
+use Rattle.quote_tags.proofs.tag.opener_size.Tie as tie
+use Rattle.quote_tags.proofs.tag.opener_size.Reads as reads
+use Rattle.quote_tags.proofs.tag.opener_size.Lts as lts
+use Rattle.quote_tags.proofs.tag.up_to_bracket.Reads as up-to-bracket-reads
+use Rattle.quote_tags.proofs.tag.opens_quote.Reads as opens-quote-reads
+
+opens-quote-requires : tie.Need-opens-quote-requires
+opens-quote-requires c κs = search needs
+
+up-to-bracket-requires : tie.Need-up-to-bracket-requires
+up-to-bracket-requires c κs = search needs
+
+returns : tie.Need-returns
+unfolding openerSize
+returns c = tag-is _ _ (sym (c .before .before .opens-quote .ensures) ∙ c .before .if1 .taken) (c .up-to-bracket .ensures)
+
+returns-2 : tie.Need-returns-2
+unfolding openerSize
+returns-2 c = tag-not _ _ (sym (c .before .opens-quote .ensures) ∙ c .if1 .left)
+
+pub opener-size-spec : {M : Type 1} → statement M
+opener-size-spec = tie.close (tie.spec opens-quote-requires up-to-bracket-requires returns returns-2)

@@ -1,0 +1,26 @@
+use borrow.Author.Needs.{needs}
+use native.Mathlib.Omega.{arith}
+use mathlib.Core.Path.{_≡_, refl, sym, ap, _∙_}
+use Prim.Native.Nat.{ℕ, suc, _+_, _-_, _≤_, _<_}
+use mathlib.Core.List.{List, [], _∷_, _++_}
+use lib.ListN.{length, getD}
+use Rattle.quote_tags.proofs.Tagging.{up-to-here, up-to-none}
+use Rattle.quote_tags.proofs.tag.up_to_bracket.Statement.{statement}
+use Rattle.quote_tags.proofs.tag.up_to_bracket.Tie as tie
+use Rattle.quote_tags.proofs.tag.up_to_bracket.Reads as reads
+use Rattle.quote_tags.proofs.tag.up_to_bracket.Lts as lts
+
+sub-result : tie.Need-sub-result
+sub-result c = search needs
+
+add-result : tie.Need-add-result
+add-result c = search needs
+
+returns : tie.Need-returns
+returns c = let a = c .before in up-to-here (a .args .s .now) (a .args .at .0) (a .args .bracket .0) (a .pre .0) (a .pre .1) (omega arith)
+
+returns-2 : tie.Need-returns-2
+returns-2 c = let a = c .before in up-to-none (a .args .s .now) (a .args .at .0) (a .args .bracket .0) (a .pre .0) (a .pre .1) (omega arith)
+
+pub up-to-bracket-spec : {M : Type 1} → statement M
+up-to-bracket-spec = tie.close (tie.spec sub-result add-result returns returns-2)

@@ -1,0 +1,339 @@
+// Masking a text in place: code, c, icode and noparse become spaces, one for each character. Every `]` and every closer is looked for once:
+// the place of the next one is kept.
+use crate::tag::bracket_from;
+use crate::tag::up_to_bracket;
+use text::PostAt;
+use text::scan::begins_at;
+use text::scan::byte_at;
+use text::scan::is_inside;
+use text::scan::next_bracket;
+use text::scan::next_byte;
+use text::scan::small_of;
+ghost use mathlib.Core.Path.{_≡_};
+ghost use mathlib.Core.Bool.{cond, false};
+ghost use mathlib.Core.List.{[], _∷_};
+ghost use Prim.Native.Nat.{_+_, _-_, _≤_, _<_};
+ghost use lib.ListN.{length, take, drop, getD};
+ghost use lib.Dec.{ltb};
+ghost use Rattle.text.specs.Ascii.{is, toFirst, toBracket};
+ghost use Rattle.quote_tags.specs.Tags.{NextBracket, beginsAny, tagSize};
+ghost use Rattle.quote_tags.specs.Masks.{toCloser, region, shown, Masked, MovedDown, KnownCloser, visible, NoMask};
+
+// Whether the text from a place on begins with one of two words.
+fn begins_either(s: &[u8], at: PostAt, first: &[u8], second: &[u8]) -> bool
+    requires { ⌜ at .0 ≤ length (now s) ⌝ }
+    ensures { λ r. ⌜ r ≡ beginsAny (now (first .entry) ∷ now (second .entry) ∷ []) (drop (at .0) (now (s .entry))) ⌝ }
+{
+    if begins_at(s, at, first) {
+        return true;
+    }
+    begins_at(s, at, second)
+}
+
+// The place of the first closer from a place on, or the end.
+fn next_closer(s: &[u8], at: PostAt, first: &[u8], second: &[u8]) -> PostAt
+    requires { ⌜ at .0 ≤ length (now s) ⌝ }
+    ensures { λ r. ⌜ r .0 ≡ at .0 + toCloser (now (first .entry) ∷ now (second .entry) ∷ []) (drop (at .0) (now (s .entry))) ⌝ }
+{
+    let mut i = at.0;
+    while i < s.len() {
+        if begins_either(s, PostAt(i), first, second) {
+            return PostAt(i);
+        }
+        i += 1;
+    }
+    PostAt(i)
+}
+
+// The size of an opener or a closer at a place, one of two words and anything up to `]`; 0 where none is there.
+fn size_of_either(s: &[u8], at: PostAt, bracket: PostAt, first: &[u8], second: &[u8]) -> usize
+    requires { ⌜ (at .0 ≤ length (now s)) × (bracket .0 ≡ at .0 + toBracket (drop (at .0) (now s))) ⌝ }
+    ensures { λ r. ⌜ r ≡ tagSize (now (first .entry) ∷ now (second .entry) ∷ []) (drop (at .0) (now (s .entry))) ⌝ }
+{
+    if begins_either(s, at, first, second) {
+        return up_to_bracket(s, at, bracket);
+    }
+    0
+}
+
+// The next closer, and the place from which on it is.
+pub struct Closer {
+    pub from: PostAt,
+    pub at: PostAt,
+}
+
+// The first closer from a place on, where one may be known, from `low` on.
+fn closer_from(
+    s: &[u8],
+    low: usize,
+    at: PostAt,
+    known: Closer,
+    first: &[u8],
+    second: &[u8],
+) -> Closer
+    requires { ⌜ ((low ≤ at .0) × (at .0 ≤ length (now s))) × KnownCloser (now first ∷ now second ∷ []) (now s) low (known .from .0) (known .at .0) ⌝ }
+    ensures { λ r. ⌜ (r .at .0 ≡ at .0 + toCloser (now (first .entry) ∷ now (second .entry) ∷ []) (drop (at .0) (now (s .entry)))) × KnownCloser (now (first .entry) ∷ now (second .entry) ∷ []) (now (s .entry)) low (r .from .0) (r .at .0) ⌝ }
+{
+    let i = at.0;
+    let from = known.from;
+    let closer = known.at;
+    let f = from.0;
+    let q = closer.0;
+    if f <= i {
+        if i <= q {
+            return Closer { from, at: closer };
+        }
+    }
+    Closer {
+        from: at,
+        at: next_closer(s, at, first, second),
+    }
+}
+
+// The masked region at a place, 0 for none, and the next `]` and closer.
+pub struct Region {
+    pub size: usize,
+    pub bracket: PostAt,
+    pub closer: Closer,
+}
+
+fn region_at(
+    s: &[u8],
+    at: PostAt,
+    bracket: PostAt,
+    closer: Closer,
+    opener: &[u8],
+    opener2: &[u8],
+    first: &[u8],
+    second: &[u8],
+) -> Region
+    requires { ⌜ (at .0 < length (now s)) × (NextBracket (now s) (at .0) (bracket .0) × KnownCloser (now first ∷ now second ∷ []) (now s) (at .0) (closer .from .0) (closer .at .0)) ⌝ }
+    ensures { λ r. ⌜ (r .size ≡ region (record { opens = now (opener .entry) ∷ now (opener2 .entry) ∷ []; closes = now (first .entry) ∷ now (second .entry) ∷ [] }) (drop (at .0) (now (s .entry)))) × ((r .bracket .0 ≡ at .0 + toBracket (drop (at .0) (now (s .entry)))) × KnownCloser (now (first .entry) ∷ now (second .entry) ∷ []) (now (s .entry)) (at .0) (r .closer .from .0) (r .closer .at .0)) ⌝ }
+{
+    let i = at.0;
+    let b = bracket_from(s, at, bracket);
+    let k = size_of_either(s, at, b, opener, opener2);
+    if k == 0 {
+        return Region {
+            size: 0,
+            bracket: b,
+            closer,
+        };
+    }
+    let c = closer_from(s, i, PostAt(i + k), closer, first, second);
+    let place = c.at;
+    let q = place.0;
+    let z = size_of_either(s, place, next_bracket(s, place), first, second);
+    if z == 0 {
+        return Region {
+            size: 0,
+            bracket: b,
+            closer: c,
+        };
+    }
+    Region {
+        size: q - i + z,
+        bracket: b,
+        closer: c,
+    }
+}
+
+// How much of a region is left at a place: of the one that goes on, else of the one that begins.
+fn region_left(
+    s: &[u8],
+    at: PostAt,
+    left: usize,
+    bracket: PostAt,
+    closer: Closer,
+    opener: &[u8],
+    opener2: &[u8],
+    first: &[u8],
+    second: &[u8],
+) -> Region
+    requires { ⌜ (at .0 < length (now s)) × (NextBracket (now s) (at .0) (bracket .0) × KnownCloser (now first ∷ now second ∷ []) (now s) (at .0) (closer .from .0) (closer .at .0)) ⌝ }
+    ensures { λ r. ⌜ (r .size ≡ cond (ltb 0 left) left (region (record { opens = now (opener .entry) ∷ now (opener2 .entry) ∷ []; closes = now (first .entry) ∷ now (second .entry) ∷ [] }) (drop (at .0) (now (s .entry))))) × (NextBracket (now (s .entry)) (at .0) (r .bracket .0) × KnownCloser (now (first .entry) ∷ now (second .entry) ∷ []) (now (s .entry)) (at .0) (r .closer .from .0) (r .closer .at .0)) ⌝ }
+{
+    if 0 < left {
+        return Region {
+            size: left,
+            bracket,
+            closer,
+        };
+    }
+    region_at(s, at, bracket, closer, opener, opener2, first, second)
+}
+
+// The byte that stands for b where so many bytes of a region are left; 256 for none.
+fn byte_for(left: usize, b: u8) -> usize
+    ensures { λ r. ⌜ shown left b ≡ cond (ltb r 256) (r ∷ []) [] ⌝ }
+{
+    if 0 < left {
+        if b == b'\n' {
+            return 10;
+        }
+        if is_inside(0x80, 0xbf, b) {
+            return 256;
+        }
+        return 32;
+    }
+    b as usize
+}
+
+// The end of a run that no region begins in: the next `[`, and within a region the place itself.
+fn run_end(s: &[u8], at: PostAt, left: usize) -> PostAt
+    requires { ⌜ at .0 ≤ length (now s) ⌝ }
+    ensures { λ r. ⌜ r .0 ≡ at .0 + cond (ltb 0 left) 0 (toFirst (is "[") (drop (at .0) (now (s .entry)))) ⌝ }
+{
+    if 0 < left {
+        return at;
+    }
+    next_byte(s, at, b'[')
+}
+
+// Moves the bytes from a up to e down to a place before them, and returns the place behind them.
+fn move_down(buf: &mut [u8], a: usize, e: usize, to: usize) -> usize
+    requires { ⌜ (to ≤ a) × ((a ≤ e) × (e ≤ length (now buf))) ⌝ }
+    ensures { λ r. ⌜ MovedDown (now (buf .entry)) a e to (now (buf .exit)) r ⌝ }
+{
+    if to == a {
+        return e;
+    }
+    let mut i = a;
+    let mut t = to;
+    while i < e {
+        buf[t] = buf[i];
+        t += 1;
+        i += 1;
+    }
+    t
+}
+
+fn one_less(left: usize) -> usize
+    ensures { λ r. ⌜ r ≡ left - 1 ⌝ }
+{
+    if left == 0 {
+        return 0;
+    }
+    left - 1
+}
+
+// Masks the first n bytes: openers and closers are one of two words each, openers with `[`. Returns how many bytes are left.
+fn mask(
+    buf: &mut [u8],
+    n: usize,
+    opener: &[u8],
+    opener2: &[u8],
+    first: &[u8],
+    second: &[u8],
+) -> usize
+    requires { ⌜ (n ≤ length (now buf)) × ((getD (now opener) 0 0 ≡ 91) × (getD (now opener2) 0 0 ≡ 91)) ⌝ }
+    ensures { λ r. ⌜ Masked (record { opens = now (opener .entry) ∷ now (opener2 .entry) ∷ []; closes = now (first .entry) ∷ now (second .entry) ∷ [] }) n (now (buf .entry)) r (now (buf .exit)) ⌝ }
+{
+    let mut i: usize = 0;
+    let mut to: usize = 0;
+    let mut left: usize = 0;
+    let mut bracket = next_bracket(&buf[..n], PostAt(0));
+    let mut closer = Closer {
+        from: PostAt(1),
+        at: PostAt(0),
+    };
+    while i < n {
+        let next = run_end(&buf[..n], PostAt(i), left);
+        to = move_down(buf, i, next.0, to);
+        i = next.0;
+        if n <= i {
+            return to;
+        }
+        let here = region_left(
+            &buf[..n],
+            PostAt(i),
+            left,
+            bracket,
+            closer,
+            opener,
+            opener2,
+            first,
+            second,
+        );
+        bracket = here.bracket;
+        closer = here.closer;
+        let size = here.size;
+        let byte = byte_for(size, buf[i]);
+        if byte < 256 {
+            buf[to] = byte as u8;
+            to += 1;
+        }
+        left = one_less(size);
+        i += 1;
+    }
+    to
+}
+
+// Masks the first n bytes by code, then by c and icode, then by noparse. Returns how many bytes are left.
+fn mask_each(buf: &mut [u8], n: usize) -> usize
+    requires { ⌜ n ≤ length (now buf) ⌝ }
+    ensures { λ r. ⌜ (r ≤ n) × (take r (now (buf .exit)) ≡ visible (take n (now (buf .entry)))) ⌝ }
+{
+    let a = mask(buf, n, b"[code]", b"[code=", b"[/code]", b"[/code]");
+    let b = mask(buf, a, b"[c]", b"[icode]", b"[/c]", b"[/icode]");
+    mask(
+        buf,
+        b,
+        b"[noparse]",
+        b"[noparse]",
+        b"[/noparse]",
+        b"[/noparse]",
+    )
+}
+
+// Whether a word that opens a mask stands at a place.
+fn opens_mask(s: &[u8], at: PostAt) -> bool
+    requires { ⌜ at .0 < length (now s) ⌝ }
+    ensures { λ r. ⌜ (r ≡ false → NoMask (drop (at .0) (now (s .entry)))) ⌝ }
+{
+    let i = at.0;
+    let second = small_of(byte_at(s, i + 1));
+    if second == b'c' {
+        if begins_at(s, at, b"[code") {
+            return true;
+        }
+        return begins_at(s, at, b"[c]");
+    }
+    if second == b'i' {
+        return begins_at(s, at, b"[icode]");
+    }
+    if second == b'n' {
+        return begins_at(s, at, b"[noparse]");
+    }
+    false
+}
+
+// Whether a word that opens a mask stands anywhere.
+fn has_mask(s: &[u8]) -> bool
+    ensures { λ r. ⌜ (r ≡ false → visible (now (s .entry)) ≡ now (s .entry)) ⌝ }
+{
+    let mut i: usize = 0;
+    while i < s.len() {
+        let next = next_byte(s, PostAt(i), b'[');
+        i = next.0;
+        if s.len() <= i {
+            return false;
+        }
+        if opens_mask(s, next) {
+            return true;
+        }
+        i += 1;
+    }
+    false
+}
+
+// The same, and most texts have no mask.
+pub fn mask_all(buf: &mut [u8], n: usize) -> usize
+    requires { ⌜ n ≤ length (now buf) ⌝ }
+    ensures { λ r. ⌜ (r ≤ n) × (take r (now (buf .exit)) ≡ visible (take n (now (buf .entry)))) ⌝ }
+{
+    if has_mask(&buf[..n]) {
+        return mask_each(buf, n);
+    }
+    n
+}
