@@ -8,6 +8,7 @@ use quote_lines::search::line_of;
 use quote_tags::tag::tag_at;
 use text::PostAt;
 use text::scan::next_bracket;
+use text::scan::next_byte;
 ghost use mathlib.Core.Path.{_≡_};
 ghost use Prim.Native.Nat.{_≤_, _<_};
 ghost use lib.ListN.{length, take, drop};
@@ -27,7 +28,7 @@ pub struct Listing {
     pub bytes: usize,
 }
 
-// Lists the losses of the token at a place; `post` is the masked original text.
+// Lists the losses of the token at a place, a text with all up to the next `[`; `post` is the masked original text.
 fn list_token(
     source: &[u8],
     post: &[u8],
@@ -83,8 +84,9 @@ fn list_token(
             bytes,
         };
     }
+    let later = next_byte(source, PostAt(i + 1), b'[');
     Listing {
-        at: PostAt(i + 1),
+        at: later,
         bracket,
         quote,
         next,

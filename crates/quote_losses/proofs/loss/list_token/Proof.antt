@@ -16,6 +16,7 @@ use Rattle.attribution_losses.proofs.loss.put_losses.Reads as put-losses-reads
 use Rattle.quote_lines.proofs.search.attribution_size.Reads as attribution-size-reads
 use Rattle.quote_lines.proofs.search.line_of.Reads as line-of-reads
 use Rattle.quote_tags.proofs.tag.tag_at.Reads as tag-at-reads
+use Rattle.text.proofs.scan.next_byte.Reads as next-byte-reads
 
 -- src/loss.rt:50:9
 tag-at-requires : tie.Need-tag-at-requires
@@ -109,15 +110,15 @@ put-losses-requires c κs =
     (omega (arith, h, room .1, a .pre .0 .1), (omega (arith, h, room .1, a .pre .0 .1, a .pre .1 .0 .1 .losses), omega (arith, h, room .1, a .pre .0 .1, a .pre .1 .0 .1 .bytes)))
 
 -- src/loss.rt:67:24
-add-t30 : tie.Need-add-t30
-add-t30 c =
+add-t31 : tie.Need-add-t31
+add-t31 c =
     let a = c .before .before .before .before .before .before .before .before .before .before .before .before .before .before .before .before .before .before .before .before .before .before in
     let room = opener-room (a .args .source .now) (a .args .from .at .0) _ _ (a .pre .0 .0) (c .before .before .before .before .before .before .before .before .before .before .before .before .before .before .before .tag-at .ensures .1 .0) (c .before .before .before .before .before .before .before .before .before .before .before .before .before .if1 .taken) (c .before .before .before .before .before .before .before .before .before .before .before .before .attribution-size .ensures) in
     omega (arith, room .1, a .pre .0 .1)
 
 -- src/loss.rt:69:20
-add-t26 : tie.Need-add-t26
-add-t26 c =
+add-t27 : tie.Need-add-t27
+add-t27 c =
     let a = c .before .before .before .before .before .before .before .before .before .before .before .before .before .before .before .before .before .before .before .before .before .before in omega (arith, a .pre .0 .0, a .pre .0 .1, a .pre .1 .0 .1 .quotes)
 
 -- src/loss.rt:66:9
@@ -138,9 +139,9 @@ returns c =
     _ _ _ _ _ _ _ (c .before .before .before .before .before .before .before .before .before .before .before .before .before .if1 .taken) (attribution-part (a .args .source .now) (a .args .from .at .0) _ _ (c .before .before .before .before .before .before .before .before .before .before .before .before .before .before .before .tag-at .ensures .1 .0) (c .before .before .before .before .before .before .before .before .before .before .before .before .attribution-size .ensures)) (omega (arith, h)) (c .before .before .before .before .before .before .before .before .line-of .ensures) (c .before .before .before .before .put-losses .ensures))
 
 -- src/loss.rt:78:24
-add-t42 : tie.Need-add-t42
+add-t43 : tie.Need-add-t43
 unfolding closerSize
-add-t42 c =
+add-t43 c =
     let a = c .before .before .before .before .before .before .before .before .before .before in
     let w = behind-within closers (a .args .source .now) (a .args .from .at .0) (omega arith) (c .before .before .before .tag-at .ensures .1 .1) in
     omega (arith, w, a .pre .0 .1)
@@ -153,15 +154,18 @@ returns-2 c =
     (lists-closer (a .args .source .now) _ _ _ (a .args .from .at .0) _ _ _ _ (a .pre .0 .0) (a .pre .1 .0 .1) _ (t .0) _ (t .1 .0) (c .before .if1 .left) _ (t .1 .1) (c .if2 .taken), refl)
 
 -- src/loss.rt:87:20
-add-t44 : tie.Need-add-t44
-add-t44 c = search needs
+add-t45 : tie.Need-add-t45
+add-t45 c = search needs
+
+next-byte-requires : tie.Need-next-byte-requires
+next-byte-requires c κs = search needs
 
 -- src/loss.rt:31:1
 returns-3 : tie.Need-returns-3
 returns-3 c =
-    let a = c .before .before .before .before .before .before .before .before .before .before in
-    let t = c .before .before .before .tag-at .ensures in
-    (lists-text (a .args .source .now) _ _ _ (a .args .from .at .0) _ _ _ _ (a .pre .0 .0) (a .pre .1 .0 .1) _ (t .0) _ (t .1 .0) (c .before .if1 .left) _ (t .1 .1) (c .if2 .left), refl)
+    let a = c .before .before .before .before .before .before .before .before .before .before .before in
+    let t = c .before .before .before .before .tag-at .ensures in
+    (lists-text (a .args .source .now) _ _ _ (a .args .from .at .0) _ _ _ _ (a .pre .0 .0) (a .pre .1 .0 .1) _ (t .0) _ (t .1 .0) (c .before .before .if1 .left) _ (t .1 .1) (c .before .if2 .left) (c .next-byte .ensures), refl)
 
 pub list-token-spec : {M : Type 1} → statement M
 list-token-spec =
@@ -186,12 +190,13 @@ list-token-spec =
     slice-relend-prefix-put-losses
     slice-aggregate-put-losses
     put-losses-requires
-    add-t30
-    add-t26
+    add-t31
+    add-t27
     same-length
     same-length-2
     returns
-    add-t42
+    add-t43
     returns-2
-    add-t44
+    add-t45
+    next-byte-requires
     returns-3)
