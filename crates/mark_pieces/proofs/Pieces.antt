@@ -77,23 +77,36 @@ pub part-bytes : (a e : ℕ) (bs ns : List ℕ) → e ≤ length bs → e ≤ le
 unfolding part
 part-bytes a e bs ns h k = bytes-drop a (take e (cells bs ns)) ∙ ap (drop a) (cells-bytes e bs ns h k)
 
--- a piece by its parts
-pub piece-by : {v v₁ v₂ v₃ v₄ : List Cell} {at at₁ at₂ at₃ at₄ : ℕ} (bs ns : List ℕ) (a last e : ℕ) (g m b₁ b₂ even touch : Bool)
-    → a < e → last ≡ e - 1 → e ≤ length bs → e ≤ length ns
-    → b₁ ≡ (g && is "}" (getD bs a 0)) → even ≡ evenRun true (drop a (take last bs)) → touch ≡ touching m (getD bs last 0) → b₂ ≡ (touch && even)
-    → Appends v at v₁ at₁ (backslash b₁) → Appends v₁ at₁ v₂ at₂ (part a last (cells bs ns)) → Appends v₂ at₂ v₃ at₃ (backslash b₂) → Appends v₃ at₃ v₄ at₄ (part last e (cells bs ns))
-    → Appends v at v₄ at₄ (pieceText g m (part a e (cells bs ns)))
-unfolding pieceText
-piece-by {v} {v₁} {v₂} {v₃} {v₄} {at} {at₁} {at₂} {at₃} {at₄} bs ns a last e g m b₁ b₂ even touch h l hb hn e₁ ev et e₂ p q r s =
-    let k : e ≡ last + 1 = omega arith in
-    let c = cell (getD bs last 0) (getD ns last 0) in
-    let f : part a e (cells bs ns) ≡ part a last (cells bs ns) ++ (c ∷ []) = rw k (part-snoc bs ns a last (omega arith) (omega arith) (omega arith)) in
-    let one : part last e (cells bs ns) ≡ c ∷ [] = part-cons bs ns last e (omega arith) hb hn ∙ rw k (ap (λ (t : List Cell). c ∷ t) (part-none (last + 1) (cells bs ns))) in
-    let first : firstOr absent (part a e (cells bs ns)) ≡ getD bs a 0 = ap (firstOr absent) (part-cons bs ns a e h hb hn) in
-    let whole : escapeLast (touching m) true (part a e (cells bs ns)) ≡ part a last (cells bs ns) ++ (backslash b₂ ++ part last e (cells bs ns)) =
-    ap (escapeLast (touching m) true) f ∙ escape-last (touching m) true (part a last (cells bs ns)) c
-    ∙ rw (one, e₂, et, ev, part-bytes a last bs ns (omega arith) (omega arith)) in
-    rw (first, ← e₁, whole) (appends-then p (appends-then q (appends-then r s)))
+-- the last cell of a part by itself
+module _ (bs ns : List ℕ) (a e : ℕ) (h : a < e) (hb : e ≤ length bs) (hn : e ≤ length ns) where
+  abbrev last : Cell
+  last = cell (getD bs (e - 1) 0) (getD ns (e - 1) 0)
+
+  part-to-last : part a e (cells bs ns) ≡ part a (e - 1) (cells bs ns) ++ (last ∷ [])
+  part-to-last = let k : e ≡ e - 1 + 1 = omega arith in ap (λ (n : ℕ). part a n (cells bs ns)) k ∙ part-snoc bs ns a (e - 1) (omega arith) (omega arith) (omega arith)
+
+  part-last : part (e - 1) e (cells bs ns) ≡ last ∷ []
+  part-last =
+      let k : e - 1 + 1 ≡ e = omega arith in
+      part-cons bs ns (e - 1) e (omega arith) hb hn ∙ ap (λ (t : List Cell). last ∷ t) (ap (λ (n : ℕ). part n e (cells bs ns)) k ∙ part-none e (cells bs ns))
+
+  -- without a backslash
+  pub unescaped : {v v' : List Cell} {at at' : ℕ} (escape : Bool) → escape ≡ false → Appends v at v' at' (part a e (cells bs ns))
+      → Appends v at v' at' (part a (e - 1) (cells bs ns) ++ (backslash escape ++ part (e - 1) e (cells bs ns)))
+  unescaped escape n p = rw (n, part-last, ← part-to-last) p
+
+  -- a piece by its parts
+  pub piece-by : {v v₁ v₂ : List Cell} {at at₁ at₂ : ℕ} (g m b₁ b₂ even touch : Bool)
+      → b₁ ≡ (g && is "}" (getD bs a 0)) → even ≡ evenRun true (drop a (take (e - 1) bs)) → touch ≡ touching m (getD bs (e - 1) 0) → b₂ ≡ (touch && even)
+      → Appends v at v₁ at₁ (backslash b₁) → Appends v₁ at₁ v₂ at₂ (part a (e - 1) (cells bs ns) ++ (backslash b₂ ++ part (e - 1) e (cells bs ns)))
+      → Appends v at v₂ at₂ (pieceText g m (part a e (cells bs ns)))
+  unfolding pieceText
+  piece-by g m b₁ b₂ even touch e₁ ev et e₂ p q =
+      let first : firstOr absent (part a e (cells bs ns)) ≡ getD bs a 0 = ap (firstOr absent) (part-cons bs ns a e h hb hn) in
+      let whole : escapeLast (touching m) true (part a e (cells bs ns)) ≡ part a (e - 1) (cells bs ns) ++ (backslash b₂ ++ part (e - 1) e (cells bs ns)) =
+      ap (escapeLast (touching m) true) part-to-last ∙ escape-last (touching m) true (part a (e - 1) (cells bs ns)) last
+      ∙ rw (part-last, e₂, et, ev, part-bytes a (e - 1) bs ns (omega arith) (omega arith)) in
+      rw (first, ← e₁, whole) (appends-then p q)
 
 -- ---- a cell put before others
 

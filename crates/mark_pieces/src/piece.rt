@@ -3,7 +3,8 @@ use text::PostAt;
 use text::TextAt;
 ghost use mathlib.Core.Path.{_≡_};
 ghost use mathlib.Core.Bool.{true};
-ghost use Prim.Native.Nat.{_≤_, _<_};
+ghost use mathlib.Core.List.{_++_};
+ghost use Prim.Native.Nat.{_-_, _≤_, _<_};
 ghost use lib.ListN.{length, take, drop};
 ghost use Rattle.text.specs.Cells.{cells, part, sign};
 ghost use Rattle.text.specs.Writes.{Appends};
@@ -47,6 +48,29 @@ fn put_backslash(buf: &mut [u8], nums: &mut [u32], at: TextAt, yes: bool) -> Tex
     at
 }
 
+// Appends the cells from a up to e, with a backslash before the last or without; without one, all of them at once.
+fn copy_escaped(
+    src: &[u8],
+    from: &[u32],
+    a: PostAt,
+    e: PostAt,
+    escape: bool,
+    buf: &mut [u8],
+    nums: &mut [u32],
+    at: TextAt,
+) -> TextAt
+    requires { ⌜ (a .0 < e .0) × ((e .0 ≤ length (now src)) × (e .0 ≤ length (now from))) ⌝ }
+    ensures { λ r. ⌜ Appends (cells (now (buf .entry)) (now (nums .entry))) (at .0) (cells (now (buf .exit)) (now (nums .exit))) (r .0) (part (a .0) (e .0 - 1) (cells (now (src .entry)) (now (from .entry))) ++ (backslash escape ++ part (e .0 - 1) (e .0) (cells (now (src .entry)) (now (from .entry))))) ⌝ }
+{
+    if escape {
+        let last = e.0 - 1;
+        let front = text::write::copy(src, from, a, PostAt(last), buf, nums, at);
+        let behind = text::write::put_sign(buf, nums, front, b'\\');
+        return text::write::copy(src, from, PostAt(last), e, buf, nums, behind);
+    }
+    text::write::copy(src, from, a, e, buf, nums, at)
+}
+
 // Appends a text piece that is not empty.
 pub fn write_piece(
     src: &[u8],
@@ -67,9 +91,7 @@ pub fn write_piece(
     let even = is_even(src, i, last);
     let escape = is_touching(touches, src[last]);
     let start = put_backslash(buf, nums, at, guarded & (src[i] == b'}'));
-    let front = text::write::copy(src, from, a, PostAt(last), buf, nums, start);
-    let behind = put_backslash(buf, nums, front, escape & even);
-    text::write::copy(src, from, PostAt(last), e, buf, nums, behind)
+    copy_escaped(src, from, a, e, escape & even, buf, nums, start)
 }
 
 // Puts a byte that a rule writes before the cells from place p on, of a text that ends at `at`.

@@ -9,10 +9,10 @@ use Rattle.mark_pieces.proofs.piece.write_piece.Statement.{statement}
 use Rattle.mark_pieces.proofs.piece.write_piece.Tie as tie
 use Rattle.mark_pieces.proofs.piece.write_piece.Reads as reads
 use Rattle.mark_pieces.proofs.piece.write_piece.Lts as lts
+use Rattle.mark_pieces.proofs.piece.copy_escaped.Reads as copy-escaped-reads
 use Rattle.mark_pieces.proofs.piece.is_even.Reads as is-even-reads
 use Rattle.mark_pieces.proofs.piece.is_touching.Reads as is-touching-reads
 use Rattle.mark_pieces.proofs.piece.put_backslash.Reads as put-backslash-reads
-use Rattle.text.proofs.write.copy.Reads as copy-reads
 
 sub-last : tie.Need-sub-last
 sub-last c = search needs
@@ -32,16 +32,8 @@ shared-slice-read-put-backslash c = search needs
 put-backslash-requires : tie.Need-put-backslash-requires
 put-backslash-requires c κs = search needs
 
-copy-requires : tie.Need-copy-requires
-copy-requires c κs = search needs
-
-put-backslash-requires-2 : tie.Need-put-backslash-requires-2
-put-backslash-requires-2 c κs = search needs
-
-copy-requires-2 : tie.Need-copy-requires-2
-copy-requires-2 c κs =
-    let pre = c .before .before .before .before .before .before .before .before .before .before .before .before .before .before .before .before .before .before .before .before .before .before .before .before .before .before .before .before .before .before .before .before .pre in
-    search needs
+copy-escaped-requires : tie.Need-copy-escaped-requires
+copy-escaped-requires c κs = search needs
 
 same-length : tie.Need-same-length
 same-length c = search needs
@@ -51,10 +43,9 @@ same-length-2 c = search needs
 
 returns : tie.Need-returns
 returns c =
-    let a = c .before .before .before .before .before .before .before .before .before .before .before .before .before .before .before .before .before .before .before .before .before .before .before .before .before .before .before .before .before .before .before .before .before .before .before .before .before .args in
-    let pre = c .before .before .before .before .before .before .before .before .before .before .before .before .before .before .before .before .before .before .before .before .before .before .before .before .before .before .before .before .before .before .before .before .before .before .before .before .before .pre in
-    piece-by (a .src .now) (a .from .now) (a .a .0) (a .e .0 - 1) (a .e .0) (a .guarded) (a .touches) _ _ _ _ (omega arith) refl (omega arith) (omega arith) refl (c .before .before .before .before .before .before .before .before .before .before .before .before .before .before .before .before .before .before .before .before .before .before .before .before .before .before .before .before .before .before .before .is-even .ensures) (c .before .before .before .before .before .before .before .before .before .before .before .before .before .before .before .before .before .before .before .before .before .before .before .before .before .before .before .before .before .is-touching .ensures) refl
-    (c .before .before .before .before .before .before .before .before .before .before .before .before .before .before .before .before .before .before .before .before .before .before .before .before .before .put-backslash .ensures) (c .before .before .before .before .before .before .before .before .before .before .before .before .before .before .before .before .before .before .copy .ensures) (c .before .before .before .before .before .before .before .before .before .before .before .put-backslash2 .ensures) (c .before .before .before .before .copy2 .ensures)
+    let a = c .before .before .before .before .before .before .before .before .before .before .before .before .before .before .before .before .before .before .before .before .before .before .before in
+    piece-by (a .args .src .now) (a .args .from .now) (a .args .a .0) (a .args .e .0) (a .pre .0) (a .pre .1 .0) (a .pre .1 .1) (a .args .guarded) (a .args .touches) _ _ _ _ refl (c .before .before .before .before .before .before .before .before .before .before .before .before .before .before .before .before .before .is-even .ensures) (c .before .before .before .before .before .before .before .before .before .before .before .before .before .before .before .is-touching .ensures) refl
+    (c .before .before .before .before .before .before .before .before .before .before .before .put-backslash .ensures) (c .before .before .before .before .copy-escaped .ensures)
 
 pub write-piece-spec : {M : Type 1} → statement M
 write-piece-spec =
@@ -66,9 +57,7 @@ write-piece-spec =
     is-touching-requires
     shared-slice-read-put-backslash
     put-backslash-requires
-    copy-requires
-    put-backslash-requires-2
-    copy-requires-2
+    copy-escaped-requires
     same-length
     same-length-2
     returns)
