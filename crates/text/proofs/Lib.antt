@@ -3,6 +3,7 @@ pub mod Clearing
 pub mod Writing
 pub mod Characters
 pub mod Bytes
+pub mod Digits
 pub mod Numbering
 pub mod Trimming
 pub mod Decimals

@@ -1,7 +1,9 @@
 // Reading bytes: ranges, tag letters in either ASCII case, the next byte of a kind.
 use crate::PostAt;
 ghost use mathlib.Core.Path.{_≡_};
-ghost use Prim.Native.Nat.{_+_, _≤_};
+ghost use mathlib.Core.Bool.{cond};
+ghost use Prim.Native.Nat.{_+_, _≤_, _<_};
+ghost use lib.Count.{trailingZeros};
 ghost use lib.ListN.{length, getD, drop};
 ghost use lib.Dec.{eqb, leb, ltb};
 ghost use Rattle.text.specs.Ascii.{inside, small, begins, toFirst, toBracket};
@@ -83,10 +85,42 @@ pub fn is_wide_16(s: &[u8], i: usize) -> bool
     wide
 }
 
-// The place from which on to look for a byte one by one: none stands between.
+fn one_if(yes: bool) -> u32
+    ensures { λ r. ⌜ (r ≡ cond yes 1 0) × (r ≤ 1) ⌝ }
+{
+    if yes {
+        return 1;
+    }
+    0
+}
+
+// The 16 bytes from i on as binary digits, the first the lowest: set where the byte is b. As many zeros stand below the lowest set digit as
+// bytes before the first b.
+fn digits_of_16(s: &[u8], i: usize, b: u8) -> u32
+    requires { ⌜ i + 16 ≤ length (now s) ⌝ }
+    ensures { λ r. ⌜ (toFirst (λ x. eqb x b) (drop i (now (s .entry))) < 16 → trailingZeros 32 r ≡ toFirst (λ x. eqb x b) (drop i (now (s .entry)))) ⌝ }
+{
+    let mut digits: u32 = 0;
+    let mut k: usize = 16;
+    while 0 < k {
+        k -= 1;
+        digits = 2 * digits + one_if(s[i + k] == b);
+    }
+    digits
+}
+
+// How many of the 16 bytes from i on stand before the first b, which is among them.
+fn first_in_16(s: &[u8], i: usize, b: u8) -> usize
+    requires { ⌜ (i + 16 ≤ length (now s)) × (toFirst (λ x. eqb x b) (drop i (now s)) < 16) ⌝ }
+    ensures { λ r. ⌜ r ≡ toFirst (λ x. eqb x b) (drop i (now (s .entry))) ⌝ }
+{
+    u32::trailing_zeros(digits_of_16(s, i, b)) as usize
+}
+
+// The place of a block of 16 with the byte b, or the one from which on to look for it one by one: none stands between.
 fn past_16s(s: &[u8], at: usize, b: u8) -> usize
     requires { ⌜ at ≤ length (now s) ⌝ }
-    ensures { λ r. ⌜ (r ≤ length (now (s .entry))) × (r + toFirst (λ x. eqb x b) (drop r (now (s .entry))) ≡ at + toFirst (λ x. eqb x b) (drop at (now (s .entry)))) ⌝ }
+    ensures { λ r. ⌜ ((r ≤ length (now (s .entry))) × (r + 16 ≤ length (now (s .entry)) → toFirst (λ x. eqb x b) (drop r (now (s .entry))) < 16)) × (r + toFirst (λ x. eqb x b) (drop r (now (s .entry))) ≡ at + toFirst (λ x. eqb x b) (drop at (now (s .entry)))) ⌝ }
 {
     let mut i = at;
     while 16 <= s.len() - i {
@@ -104,6 +138,9 @@ pub fn next_byte(s: &[u8], at: PostAt, b: u8) -> PostAt
     ensures { λ r. ⌜ r .0 ≡ at .0 + toFirst (λ x. eqb x b) (drop (at .0) (now (s .entry))) ⌝ }
 {
     let mut i = past_16s(s, at.0, b);
+    if 16 <= s.len() - i {
+        return PostAt(i + first_in_16(s, i, b));
+    }
     while i < s.len() {
         if s[i] == b {
             return PostAt(i);

@@ -5,7 +5,7 @@ use Prim.Native.Nat.{ℕ, suc, _+_, _-_, _≤_, _<_}
 use mathlib.Core.List.{List, [], _∷_, _++_}
 use lib.ListN.{length, getD, drop}
 use lib.Dec.{eqb, ltb}
-use borrow.Author.Tests.{ltb-false}
+use borrow.Author.Tests.{ltb-false, ltb-true}
 use Rattle.text.specs.Ascii.{toFirst}
 use Rattle.text.proofs.Bytes.{Looks, look, look-past}
 use Rattle.text.proofs.scan.past_16s.Statement.{statement}
@@ -30,7 +30,7 @@ stands-in-16-requires : tie.Need-stands-in-16-requires Inv-loop μ-loop
 stands-in-16-requires c κs = search needs
 
 returns : tie.Need-returns Inv-loop μ-loop
-returns c = let l = c .before .before .before .loop in (l .inv .inside, l .inv .ends)
+returns c = let l = c .before .before .before .loop in ((l .inv .inside, λ le. ltb-true _ 16 (sym (c .before .stands-in-16 .ensures) ∙ c .if1 .taken)), l .inv .ends)
 
 add-i : tie.Need-add-i Inv-loop μ-loop
 add-i c = search needs
@@ -42,7 +42,7 @@ loop-again : tie.Need-loop-again Inv-loop μ-loop
 loop-again c = let l = c .before .before .before .loop in look-past _ _ _ (l .i) 16 (l .inv) (omega arith) (ltb-false _ 16 (sym (c .before .stands-in-16 .ensures) ∙ c .if1 .left))
 
 returns-2 : tie.Need-returns-2 Inv-loop μ-loop
-returns-2 c = let l = c .before .loop in (l .inv .inside, l .inv .ends)
+returns-2 c = let l = c .before .loop in ((l .inv .inside, λ le. absurd (omega (arith, le, c .loop-test .left))), l .inv .ends)
 
 pub past-16s-spec : {M : Type 1} → statement M
 past-16s-spec =

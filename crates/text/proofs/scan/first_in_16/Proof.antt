@@ -1,0 +1,26 @@
+use borrow.Author.Needs.{needs}
+use native.Mathlib.Omega.{arith}
+use mathlib.Core.Path.{_≡_, refl, sym, ap, _∙_}
+use Prim.Native.Nat.{ℕ, suc, _+_, _-_, _≤_, _<_}
+use mathlib.Core.List.{List, [], _∷_, _++_}
+use lib.ListN.{length, getD}
+use lib.Count.{trailingZeros, trailing-le}
+use Rattle.text.proofs.scan.first_in_16.Statement.{statement}
+use Rattle.text.proofs.scan.first_in_16.Tie as tie
+use Rattle.text.proofs.scan.first_in_16.Reads as reads
+use Rattle.text.proofs.scan.first_in_16.Lts as lts
+use Rattle.text.proofs.scan.digits_of_16.Reads as digits-of-16-reads
+
+digits-of-16-requires : tie.Need-digits-of-16-requires
+digits-of-16-requires c κs = search needs
+
+cast-result : tie.Need-cast-result
+cast-result c =
+    let t : trailingZeros 32 (c .digits-of-16 .result) ≤ 32 = trailing-le 32 (c .digits-of-16 .result) in
+    search (needs, t)
+
+returns : tie.Need-returns
+returns c = c .digits-of-16 .ensures (c .before .before .pre .1)
+
+pub first-in-16-spec : {M : Type 1} → statement M
+first-in-16-spec = tie.close (tie.spec digits-of-16-requires cast-result returns)
