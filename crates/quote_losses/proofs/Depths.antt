@@ -7,11 +7,11 @@ use mathlib.Core.List.{List}
 use lib.ListN.{length, drop}
 use borrow.Author.Tests.{lt-ltb, le-ltb}
 use lib.Dec.{ltb}
-use Rattle.text.specs.Ascii.{is, toFirst, toBracket}
+use Rattle.text.specs.Ascii.{is, toFirst}
 use Rattle.text.specs.Cells.{Cell, bytes}
 use Rattle.quote_tags.specs.Tags.{NextBracket, openers, closers, openerSize, closerSize}
 use Rattle.quote_blocks.specs.Quotes.{tokens, tooDeepFrom, tooDeep, DepthBehind, TooDeep}
-use Rattle.quote_tags.proofs.Tagging.{bracket-on, behind-within, behind-bracket}
+use Rattle.quote_tags.proofs.Tagging.{behind-within}
 use Rattle.quote_tags.proofs.Plain.{bracket-past}
 use Rattle.quote_steps.proofs.Texts.{run-within, read-run, deep-texts}
 use Rattle.quote_blocks.proofs.Reading.{read-opener, read-closer, read-text, read-end, deep-opener, deep-closer, deep-text}
@@ -21,28 +21,25 @@ use Rattle.quote_blocks.proofs.Reading.{read-opener, read-closer, read-text, re
 abbrev Behind : (s : List ℕ) (i depth i' b depth' : ℕ) → Type 0
 Behind s i depth i' b depth' = ((i < i') × (i' ≤ length s)) × ((NextBracket s i' b × (depth' ≤ 65)) × DepthBehind s i depth i' depth')
 
-module _ (s : List ℕ) (i b d k : ℕ) (lt : i < length s) (eb : b ≡ i + toBracket (drop i s)) (h : d ≤ 64) (ek : k ≡ openerSize (drop i s)) where
+module _ (s : List ℕ) (i b d k : ℕ) (lt : i < length s) (nb : NextBracket s i b) (h : d ≤ 64) (ek : k ≡ openerSize (drop i s)) where
   pub depth-opener : (k ≡ 0 → ⊥) → Behind s i d (i + k) b (d + 1)
   unfolding openerSize
   depth-opener n =
       let w = behind-within openers s i (omega arith) ek in
-      let t = behind-bracket openers s i (omega arith) ek eb n in
-      ((omega arith, w), ((λ le. absurd (omega (arith, t, le)), omega arith), record { same = λ x e. ap (tooDeepFrom d) (read-opener x s e i ek n) ∙ deep-opener d _ _ _ h }))
+      ((omega arith, w), ((bracket-past s i (i + k) (omega arith) w nb, omega arith), record { same = λ x e. ap (tooDeepFrom d) (read-opener x s e i ek n) ∙ deep-opener d _ _ _ h }))
 
   module _ (j : ℕ) (z : k ≡ 0) (ej : j ≡ closerSize (drop i s)) where
     pub depth-closer : (d' : ℕ) → (j ≡ 0 → ⊥) → d' ≡ d - 1 → Behind s i d (i + j) b d'
     unfolding closerSize
     depth-closer d' n q =
         let w = behind-within closers s i (omega arith) ej in
-        let t = behind-bracket closers s i (omega arith) ej eb n in
-        ((omega arith, w), ((λ le. absurd (omega (arith, t, le)), omega arith), record { same = λ x e. ap (tooDeepFrom d) (read-closer x s e i ek z ej n) ∙ deep-closer d _ _ h q }))
+        ((omega arith, w), ((bracket-past s i (i + j) (omega arith) w nb, omega arith), record { same = λ x e. ap (tooDeepFrom d) (read-closer x s e i ek z ej n) ∙ deep-closer d _ _ h q }))
 
     -- with the text up to the next `[`
     pub depth-text : j ≡ 0 → {q : ℕ} → q ≡ i + 1 + toFirst (is "[") (drop (i + 1) s) → Behind s i d q b d
     depth-text y {q} eq =
         let w = run-within s (i + 1) (omega arith) eq in
-        let nb : NextBracket s (i + 1) b = λ le. bracket-on s i b (omega arith) eb lt le in
-        ((omega (arith, w), w .1), ((bracket-past s (i + 1) q (w .0) (w .1) nb, omega arith), record { same = λ x e. ap (tooDeepFrom d) (read-text x s e i lt ek z ej y) ∙ deep-text d _ _ h ∙ ap (cond (ltb 64 d) true) (later x e q eq) }))
+        ((omega (arith, w), w .1), ((bracket-past s i q (omega (arith, w)) (w .1) nb, omega arith), record { same = λ x e. ap (tooDeepFrom d) (read-text x s e i lt ek z ej y) ∙ deep-text d _ _ h ∙ ap (cond (ltb 64 d) true) (later x e q eq) }))
       where
         later : (x : List Cell) → bytes x ≡ s → (q : ℕ) → q ≡ i + 1 + toFirst (is "[") (drop (i + 1) s) → tooDeepFrom d (tokens 0 (drop (i + 1) x)) ≡ tooDeepFrom d (tokens 0 (drop q x))
         later x e q eq =

@@ -6,7 +6,7 @@ use native.Mathlib.Omega.{arith}
 use mathlib.Core.List.{List, [], _∷_, _++_, append-assoc, append-nil}
 use lib.ListN.{length, take, drop, length-append, length-drop, drop-of-length-le}
 use lib.Seq.{drop-drop, length-take-le, take-at, drop-at, take-all}
-use Rattle.text.specs.Ascii.{is, toFirst, toBracket}
+use Rattle.text.specs.Ascii.{is, toFirst}
 use Rattle.text.specs.Cells.{Cell, bytes}
 use Rattle.attribution_parts.specs.Attribution.{Loss, losses}
 use Rattle.attribution_losses.specs.Lists.{Puts, recordsOf, lossWords, Lists}
@@ -14,7 +14,7 @@ use Rattle.attribution_losses.proofs.Listing.{puts-none, puts-then, puts-as, li
 use Rattle.quote_tags.specs.Tags.{NextBracket, openers, closers, openerSize, closerSize, attributionOf}
 use Rattle.quote_lines.specs.Lines.{Tag, tags, place, nextAfter, lineAt, linesFrom}
 use Rattle.quote_lines.specs.Tables.{Table}
-use Rattle.quote_tags.proofs.Tagging.{bracket-on, behind-within, behind-next}
+use Rattle.quote_tags.proofs.Tagging.{behind-within}
 use Rattle.quote_tags.proofs.Plain.{bracket-past}
 use Rattle.quote_lines.proofs.Tabling.{opener-long}
 use Rattle.quote_blocks.specs.Quotes.{Token, tokens, attributionsIn, attributions}
@@ -98,7 +98,7 @@ names-on x s e i q eq =
 abbrev Behind : (s : List ℕ) (i i' b quote k to : ℕ) → Type 0
 Behind s i i' b quote k to = ((i < i') × (i' ≤ length s)) × (NextBracket s i' b × FewAt i' quote k to)
 
-module _ (s : List ℕ) (ts : List Tag) (rs bs : List ℕ) (i quote next k to : ℕ) (lt : i < length s) (few : FewAt i quote k to) (b : ℕ) (eb : b ≡ i + toBracket (drop i s)) where
+module _ (s : List ℕ) (ts : List Tag) (rs bs : List ℕ) (i quote next k to : ℕ) (lt : i < length s) (few : FewAt i quote k to) (b : ℕ) (nb : NextBracket s i b) where
   abbrev Lists-to : (rs' bs' : List ℕ) (i' quote' next' k' to' : ℕ) → Type 0
   Lists-to rs' bs' i' quote' next' k' to' = Behind s i i' b quote' k' to' × ListsToken s ts rs bs i quote next k to rs' bs' i' quote' next' k' to'
 
@@ -110,7 +110,7 @@ module _ (s : List ℕ) (ts : List Tag) (rs bs : List ℕ) (i quote next k to : 
     unfolding openerSize attributionsIn recordsFrom linesFrom lossesIn
     lists-opener rs' bs' a line next' k' to' n ea short (el, en) (l, (mk, mt)) =
         let w = behind-within openers s i (omega arith) eo in (
-          ((omega arith, w), (behind-next openers s i (omega arith) eo s eb n, record { quotes = omega (arith, few .quotes); losses = omega (arith, few .losses); bytes = omega (arith, few .bytes) })),
+          ((omega arith, w), (bracket-past s i (i + o) (omega arith) w nb, record { quotes = omega (arith, few .quotes); losses = omega (arith, few .losses); bytes = omega (arith, few .bytes) })),
           record {
             line = line;
             lost = losses a;
@@ -144,7 +144,7 @@ module _ (s : List ℕ) (ts : List Tag) (rs bs : List ℕ) (i quote next k to : 
         unfolding closerSize attributionsIn
         lists-closer n =
             let w = behind-within closers s i (omega arith) ej in (
-              ((omega arith, w), (behind-next closers s i (omega arith) ej s eb n, on (i + j) (omega arith))),
+              ((omega arith, w), (bracket-past s i (i + j) (omega arith) w nb, on (i + j) (omega arith))),
               none (i + j) (λ x e. ap attributionsIn (read-closer x s e i eo z ej n)),
             )
 
@@ -152,9 +152,8 @@ module _ (s : List ℕ) (ts : List Tag) (rs bs : List ℕ) (i quote next k to : 
         pub lists-text : j ≡ 0 → {q : ℕ} → q ≡ i + 1 + toFirst (is "[") (drop (i + 1) s) → Lists-to rs bs q quote next k to
         unfolding attributionsIn
         lists-text y {q} eq =
-            let w = run-within s (i + 1) (omega arith) eq in
-            let nb : NextBracket s (i + 1) b = λ le. bracket-on s i b (omega arith) eb lt le in (
-              ((omega (arith, w), w .1), (bracket-past s (i + 1) q (w .0) (w .1) nb, on q (omega (arith, w)))),
+            let w = run-within s (i + 1) (omega arith) eq in (
+              ((omega (arith, w), w .1), (bracket-past s i q (omega (arith, w)) (w .1) nb, on q (omega (arith, w)))),
               none q (λ x e. ap attributionsIn (read-text x s e i lt eo z ej y) ∙ names-on x s e i q eq),
             )
 

@@ -1,7 +1,5 @@
 // Refusal 5: an opener met while 64 quotes are open. Counted over the whole text before anything is written.
-use quote_tags::tag::bracket_from;
-use quote_tags::tag::closer_size;
-use quote_tags::tag::opener_size;
+use quote_tags::tag::tag_at;
 use text::PostAt;
 use text::scan::next_bracket;
 use text::scan::next_byte;
@@ -29,8 +27,9 @@ fn depth_behind(s: &[u8], from: Depth) -> Depth
     let known = from.bracket;
     let open = from.open;
     let i = at.0;
-    let bracket = bracket_from(s, at, known);
-    let k = opener_size(s, at, bracket);
+    let tag = tag_at(s, at, known);
+    let bracket = tag.bracket;
+    let k = tag.opener;
     if k != 0 {
         return Depth {
             at: PostAt(i + k),
@@ -38,7 +37,7 @@ fn depth_behind(s: &[u8], from: Depth) -> Depth
             open: open + 1,
         };
     }
-    let j = closer_size(s, at, bracket);
+    let j = tag.closer;
     if j != 0 {
         if open == 0 {
             return Depth {

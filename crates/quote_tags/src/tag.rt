@@ -77,7 +77,7 @@ pub fn closer_size(s: &[u8], at: PostAt, bracket: PostAt) -> usize
     0
 }
 
-// The quote tag at a place: the size of an opener, of a closer, and the place of the next `]`.
+// The quote tag at a place: the size of an opener, of a closer, and the place of the next `]`, which is looked for only where a tag's word stands.
 pub struct Tag {
     pub opener: usize,
     pub closer: usize,
@@ -86,14 +86,30 @@ pub struct Tag {
 
 pub fn tag_at(s: &[u8], at: PostAt, known: PostAt) -> Tag
     requires { ⌜ (at .0 ≤ length (now s)) × NextBracket (now s) (at .0) (known .0) ⌝ }
-    ensures { λ r. ⌜ (r .bracket .0 ≡ at .0 + toBracket (drop (at .0) (now (s .entry)))) × ((r .opener ≡ openerSize (drop (at .0) (now (s .entry)))) × (r .closer ≡ closerSize (drop (at .0) (now (s .entry))))) ⌝ }
+    ensures { λ r. ⌜ NextBracket (now (s .entry)) (at .0) (r .bracket .0) × ((r .opener ≡ openerSize (drop (at .0) (now (s .entry)))) × (r .closer ≡ closerSize (drop (at .0) (now (s .entry))))) ⌝ }
 {
-    let bracket = bracket_from(s, at, known);
-    let opener = opener_size(s, at, bracket);
-    let closer = closer_size(s, at, bracket);
+    if opens_quote(s, at) {
+        let bracket = bracket_from(s, at, known);
+        let opener = up_to_bracket(s, at, bracket);
+        let closer = closer_size(s, at, bracket);
+        return Tag {
+            opener,
+            closer,
+            bracket,
+        };
+    }
+    if begins_at(s, at, b"[/quote]") {
+        let bracket = bracket_from(s, at, known);
+        let closer = up_to_bracket(s, at, bracket);
+        return Tag {
+            opener: 0,
+            closer,
+            bracket,
+        };
+    }
     Tag {
-        opener,
-        closer,
-        bracket,
+        opener: 0,
+        closer: 0,
+        bracket: known,
     }
 }

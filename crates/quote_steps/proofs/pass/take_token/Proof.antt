@@ -10,7 +10,7 @@ use mathlib.Core.Path.{subst}
 use Rattle.quote_steps.proofs.Passing.{opener-taken, stray-taken, closer-taken, text-taken, appending-keeps}
 use Rattle.quote_steps.proofs.Texts.{run-within}
 use Rattle.quote_tags.proofs.Plain.{bracket-past}
-use Rattle.quote_tags.proofs.Tagging.{bracket-on, behind-within, behind-next}
+use Rattle.quote_tags.proofs.Tagging.{behind-within}
 use Rattle.quote_tags.specs.Tags.{NextBracket, openers, closers, openerSize, closerSize}
 use Rattle.attribution_parts.specs.Attribution.{caption}
 use Rattle.quote_steps.proofs.pass.take_token.Statement.{statement}
@@ -67,7 +67,7 @@ same-length-3 c = search needs
 
 returns : tie.Need-returns
 unfolding openerSize
-returns c = let a = c .before .before .before .before .before .before .before .before .before .before .before .before .before .args in let p = c .before .before .before .before .before .before .before .before .before .before .before .before .before .pre in let E = c .before .before .tag-at .ensures in let he = p .0 .0 .1 .0 in let ht = p .0 .0 .1 .1 .1 in let hb : a .end ≤ length (a .work .now) = omega (arith, p .0 .1 .0 .0) in let hn = p .0 .1 .0 .1 .0 in let hp : a .base ≤ a .end = omega (arith, p .0 .0 .1 .1 .0, ht) in let s = take (a .e) (a .work .now) in let l : length s ≡ a .e = length-take-le (a .e) (a .work .now) (omega (arith, he, hp, hb)) in let il : a .from .at .0 ≤ length s = omega (arith, l, p .0 .0 .0) in let n = c .if1 .taken in let g = p .1 .1 .1 (λ z. n (E .1 .0 ∙ z)) in let w = behind-within openers s (a .from .at .0) il (E .1 .0) in (((omega (arith, n), (omega (arith, w, l), (p .0 .0 .1 .1 .0, omega (arith, g)))), (refl, behind-next openers s (a .from .at .0) il (E .1 .0) s (E .0) n)), opener-taken caption (a .e) (a .base) (a .end) (a .work .now) (a .numbers .now) (a .from .to .0) (a .starts .now) (a .tags .now) (a .from .depth) he hp hb hn ht (a .from .at .0) (p .0 .0 .0) (E .1 .0) n (omega (arith, g, p .1 .0 .0)) (omega (arith, g, p .1 .0 .1 .0)))
+returns c = let a = c .before .before .before .before .before .before .before .before .before .before .before .before .before .args in let p = c .before .before .before .before .before .before .before .before .before .before .before .before .before .pre in let E = c .before .before .tag-at .ensures in let he = p .0 .0 .1 .0 in let ht = p .0 .0 .1 .1 .1 in let hb : a .end ≤ length (a .work .now) = omega (arith, p .0 .1 .0 .0) in let hn = p .0 .1 .0 .1 .0 in let hp : a .base ≤ a .end = omega (arith, p .0 .0 .1 .1 .0, ht) in let s = take (a .e) (a .work .now) in let l : length s ≡ a .e = length-take-le (a .e) (a .work .now) (omega (arith, he, hp, hb)) in let il : a .from .at .0 ≤ length s = omega (arith, l, p .0 .0 .0) in let n = c .if1 .taken in let g = p .1 .1 .1 (λ z. n (E .1 .0 ∙ z)) in let w = behind-within openers s (a .from .at .0) il (E .1 .0) in (((omega (arith, n), (omega (arith, w, l), (p .0 .0 .1 .1 .0, omega (arith, g)))), (refl, bracket-past s (a .from .at .0) (a .from .at .0 + c .before .before .tag-at .result .opener) (omega arith) w (E .0))), opener-taken caption (a .e) (a .base) (a .end) (a .work .now) (a .numbers .now) (a .from .to .0) (a .starts .now) (a .tags .now) (a .from .depth) he hp hb hn ht (a .from .at .0) (p .0 .0 .0) (E .1 .0) n (omega (arith, g, p .1 .0 .0)) (omega (arith, g, p .1 .0 .1 .0)))
 
 add-t34 : tie.Need-add-t34
 unfolding closerSize
@@ -78,7 +78,7 @@ same-length-4 c = search needs
 
 returns-2 : tie.Need-returns-2
 unfolding closerSize
-returns-2 c = let a = c .before .before .before .before .before .before .before .before .before .before .before .before .before .before .before .args in let p = c .before .before .before .before .before .before .before .before .before .before .before .before .before .before .before .pre in let E = c .before .before .before .before .tag-at .ensures in let he = p .0 .0 .1 .0 in let ht = p .0 .0 .1 .1 .1 in let hb : a .end ≤ length (a .work .now) = omega (arith, p .0 .1 .0 .0) in let hn = p .0 .1 .0 .1 .0 in let hp : a .base ≤ a .end = omega (arith, p .0 .0 .1 .1 .0, ht) in let s = take (a .e) (a .work .now) in let l : length s ≡ a .e = length-take-le (a .e) (a .work .now) (omega (arith, he, hp, hb)) in let il : a .from .at .0 ≤ length s = omega (arith, l, p .0 .0 .0) in let n = c .before .if2 .taken in let w = behind-within closers s (a .from .at .0) il (E .1 .1) in (((omega (arith, n), (omega (arith, w, l), (p .0 .0 .1 .1 .0, p .1 .0 .1 .1))), (refl, behind-next closers s (a .from .at .0) il (E .1 .1) s (E .0) n)), stray-taken caption (a .e) (a .base) (a .end) (a .work .now) (a .numbers .now) (a .from .to .0) (a .starts .now) (a .tags .now) (a .from .depth) he hp hb hn ht (a .from .at .0) (p .0 .0 .0) (E .1 .0) (c .before .before .if1 .left) (E .1 .1) n (c .if3 .taken))
+returns-2 c = let a = c .before .before .before .before .before .before .before .before .before .before .before .before .before .before .before .args in let p = c .before .before .before .before .before .before .before .before .before .before .before .before .before .before .before .pre in let E = c .before .before .before .before .tag-at .ensures in let he = p .0 .0 .1 .0 in let ht = p .0 .0 .1 .1 .1 in let hb : a .end ≤ length (a .work .now) = omega (arith, p .0 .1 .0 .0) in let hn = p .0 .1 .0 .1 .0 in let hp : a .base ≤ a .end = omega (arith, p .0 .0 .1 .1 .0, ht) in let s = take (a .e) (a .work .now) in let l : length s ≡ a .e = length-take-le (a .e) (a .work .now) (omega (arith, he, hp, hb)) in let il : a .from .at .0 ≤ length s = omega (arith, l, p .0 .0 .0) in let n = c .before .if2 .taken in let w = behind-within closers s (a .from .at .0) il (E .1 .1) in (((omega (arith, n), (omega (arith, w, l), (p .0 .0 .1 .1 .0, p .1 .0 .1 .1))), (refl, bracket-past s (a .from .at .0) (a .from .at .0 + c .before .before .before .before .tag-at .result .closer) (omega arith) w (E .0))), stray-taken caption (a .e) (a .base) (a .end) (a .work .now) (a .numbers .now) (a .from .to .0) (a .starts .now) (a .tags .now) (a .from .depth) he hp hb hn ht (a .from .at .0) (p .0 .0 .0) (E .1 .0) (c .before .before .if1 .left) (E .1 .1) n (c .if3 .taken))
 
 close-innermost-requires : tie.Need-close-innermost-requires
 close-innermost-requires c κs = let p = c .before .before .before .before .before .before .before .before .before .before .before .before .before .before .before .before .before .before .before .before .before .pre in ((p .0 .0 .1 .0, (p .0 .0 .1 .1 .0, p .0 .0 .1 .1 .1)), (p .0 .1, (omega (arith, c .before .before .before .before .before .before .if3 .left), (omega (arith, p .1 .0 .0, p .1 .0 .1 .1), omega (arith, p .1 .0 .1 .0, p .1 .0 .1 .1)))))
@@ -110,7 +110,7 @@ same-length-10 c = search needs
 
 returns-3 : tie.Need-returns-3
 unfolding closerSize
-returns-3 c = let a = c .before .before .before .before .before .before .before .before .before .before .before .before .before .before .before .before .before .before .before .before .before .before .before .before .before .before .before .before .before .before .args in let p = c .before .before .before .before .before .before .before .before .before .before .before .before .before .before .before .before .before .before .before .before .before .before .before .before .before .before .before .before .before .before .pre in let E = c .before .before .before .before .before .before .before .before .before .before .before .before .before .before .before .before .before .before .before .tag-at .ensures in let he = p .0 .0 .1 .0 in let ht = p .0 .0 .1 .1 .1 in let hb : a .end ≤ length (a .work .now) = omega (arith, p .0 .1 .0 .0) in let hn = p .0 .1 .0 .1 .0 in let hp : a .base ≤ a .end = omega (arith, p .0 .0 .1 .1 .0, ht) in let s = take (a .e) (a .work .now) in let l : length s ≡ a .e = length-take-le (a .e) (a .work .now) (omega (arith, he, hp, hb)) in let il : a .from .at .0 ≤ length s = omega (arith, l, p .0 .0 .0) in let n = c .before .before .before .before .before .before .before .before .before .before .before .before .before .before .before .before .if2 .taken in let w = behind-within closers s (a .from .at .0) il (E .1 .1) in let Q = c .before .before .before .before .before .before .before .before .close-innermost .ensures in (((omega (arith, n), (omega (arith, w, l), (Q .0, omega (arith, p .1 .0 .1 .1)))), (Q .1 .0, behind-next closers s (a .from .at .0) il (E .1 .1) _ (E .0) n)), closer-taken caption (a .e) (a .base) (a .end) (a .work .now) (a .numbers .now) (a .from .to .0) (a .starts .now) (a .tags .now) (a .from .depth) he hp hb hn ht (a .from .at .0) (p .0 .0 .0) (E .1 .0) (c .before .before .before .before .before .before .before .before .before .before .before .before .before .before .before .before .before .if1 .left) (E .1 .1) n (c .before .before .before .before .before .before .before .before .before .before .before .before .before .before .before .if3 .left) (Q .1 .1))
+returns-3 c = let a = c .before .before .before .before .before .before .before .before .before .before .before .before .before .before .before .before .before .before .before .before .before .before .before .before .before .before .before .before .before .before .args in let p = c .before .before .before .before .before .before .before .before .before .before .before .before .before .before .before .before .before .before .before .before .before .before .before .before .before .before .before .before .before .before .pre in let E = c .before .before .before .before .before .before .before .before .before .before .before .before .before .before .before .before .before .before .before .tag-at .ensures in let he = p .0 .0 .1 .0 in let ht = p .0 .0 .1 .1 .1 in let hb : a .end ≤ length (a .work .now) = omega (arith, p .0 .1 .0 .0) in let hn = p .0 .1 .0 .1 .0 in let hp : a .base ≤ a .end = omega (arith, p .0 .0 .1 .1 .0, ht) in let s = take (a .e) (a .work .now) in let l : length s ≡ a .e = length-take-le (a .e) (a .work .now) (omega (arith, he, hp, hb)) in let il : a .from .at .0 ≤ length s = omega (arith, l, p .0 .0 .0) in let n = c .before .before .before .before .before .before .before .before .before .before .before .before .before .before .before .before .if2 .taken in let w = behind-within closers s (a .from .at .0) il (E .1 .1) in let Q = c .before .before .before .before .before .before .before .before .close-innermost .ensures in (((omega (arith, n), (omega (arith, w, l), (Q .0, omega (arith, p .1 .0 .1 .1)))), (Q .1 .0, subst (λ (x : List ℕ). NextBracket x (a .from .at .0 + c .before .before .before .before .before .before .before .before .before .before .before .before .before .before .before .before .before .before .before .tag-at .result .closer) (c .before .before .before .before .before .before .before .before .before .before .before .before .before .before .before .before .before .before .before .tag-at .result .bracket .0)) (sym (Q .1 .0)) (bracket-past s (a .from .at .0) (a .from .at .0 + c .before .before .before .before .before .before .before .before .before .before .before .before .before .before .before .before .before .before .before .tag-at .result .closer) (omega arith) w (E .0)))), closer-taken caption (a .e) (a .base) (a .end) (a .work .now) (a .numbers .now) (a .from .to .0) (a .starts .now) (a .tags .now) (a .from .depth) he hp hb hn ht (a .from .at .0) (p .0 .0 .0) (E .1 .0) (c .before .before .before .before .before .before .before .before .before .before .before .before .before .before .before .before .before .if1 .left) (E .1 .1) n (c .before .before .before .before .before .before .before .before .before .before .before .before .before .before .before .if3 .left) (Q .1 .1))
 
 slice-reshare-prefix-next-byte : tie.Need-slice-reshare-prefix-next-byte
 slice-reshare-prefix-next-byte c = let p = c .before .before .before .before .before .before .before .before .before .before .before .before .before .before .pre in omega (arith, p .0 .0 .1 .0, p .0 .0 .1 .1 .0, p .0 .0 .1 .1 .1, p .0 .1 .0 .0)
@@ -134,7 +134,7 @@ same-length-12 : tie.Need-same-length-12
 same-length-12 c = search needs
 
 returns-4 : tie.Need-returns-4
-returns-4 c = let a = c .before .before .before .before .before .before .before .before .before .before .before .before .before .before .before .before .before .before .before .before .before .before .before .args in let p = c .before .before .before .before .before .before .before .before .before .before .before .before .before .before .before .before .before .before .before .before .before .before .before .pre in let E = c .before .before .before .before .before .before .before .before .before .before .before .before .tag-at .ensures in let he = p .0 .0 .1 .0 in let ht = p .0 .0 .1 .1 .1 in let hb : a .end ≤ length (a .work .now) = omega (arith, p .0 .1 .0 .0) in let hn = p .0 .1 .0 .1 .0 in let hp : a .base ≤ a .end = omega (arith, p .0 .0 .1 .1 .0, ht) in let s = take (a .e) (a .work .now) in let l : length s ≡ a .e = length-take-le (a .e) (a .work .now) (omega (arith, p .0 .0 .1 .0, p .0 .0 .1 .1 .0, p .0 .0 .1 .1 .1, p .0 .1 .0 .0)) in let il : a .from .at .0 ≤ length s = omega (arith, l, p .0 .0 .0) in let r = run-within s (a .from .at .0 + 1) (omega (arith, l, p .0 .0 .0)) (c .before .before .before .before .before .before .before .next-byte .ensures) in let Q = c .before .before .before .before .copy-within .ensures in let kept = appending-keeps caption (a .e) (a .base) (a .end) (a .work .now) (a .numbers .now) (a .from .to .0) (a .starts .now) (a .tags .now) (a .from .depth) he hp hb hn ht Q (p .0 .0 .1 .1 .0) (search needs) (search needs) in (((omega (arith, r .0), (omega (arith, r .1, l), (omega (arith, p .0 .0 .1 .1 .0, Q .appends .grows), p .1 .0 .1 .1))), (kept, subst (λ (x : List ℕ). NextBracket x (c .before .before .before .before .before .before .before .next-byte .result .0) (c .before .before .before .before .before .before .before .before .before .before .before .before .tag-at .result .bracket .0)) (sym kept) (bracket-past s (a .from .at .0 + 1) _ (r .0) (r .1) (λ q. bracket-on s (a .from .at .0) _ il (E .0) (omega (arith, l, p .0 .0 .0)) q)))), text-taken caption (a .e) (a .base) (a .end) (a .work .now) (a .numbers .now) (a .from .to .0) (a .starts .now) (a .tags .now) (a .from .depth) he hp hb hn ht (a .from .at .0) (p .0 .0 .0) (E .1 .0) (c .before .before .before .before .before .before .before .before .before .before .if1 .left) (E .1 .1) (c .before .before .before .before .before .before .before .before .before .if2 .left) (c .before .before .before .before .before .before .before .next-byte .ensures) Q)
+returns-4 c = let a = c .before .before .before .before .before .before .before .before .before .before .before .before .before .before .before .before .before .before .before .before .before .before .before .args in let p = c .before .before .before .before .before .before .before .before .before .before .before .before .before .before .before .before .before .before .before .before .before .before .before .pre in let E = c .before .before .before .before .before .before .before .before .before .before .before .before .tag-at .ensures in let he = p .0 .0 .1 .0 in let ht = p .0 .0 .1 .1 .1 in let hb : a .end ≤ length (a .work .now) = omega (arith, p .0 .1 .0 .0) in let hn = p .0 .1 .0 .1 .0 in let hp : a .base ≤ a .end = omega (arith, p .0 .0 .1 .1 .0, ht) in let s = take (a .e) (a .work .now) in let l : length s ≡ a .e = length-take-le (a .e) (a .work .now) (omega (arith, p .0 .0 .1 .0, p .0 .0 .1 .1 .0, p .0 .0 .1 .1 .1, p .0 .1 .0 .0)) in let il : a .from .at .0 ≤ length s = omega (arith, l, p .0 .0 .0) in let r = run-within s (a .from .at .0 + 1) (omega (arith, l, p .0 .0 .0)) (c .before .before .before .before .before .before .before .next-byte .ensures) in let Q = c .before .before .before .before .copy-within .ensures in let kept = appending-keeps caption (a .e) (a .base) (a .end) (a .work .now) (a .numbers .now) (a .from .to .0) (a .starts .now) (a .tags .now) (a .from .depth) he hp hb hn ht Q (p .0 .0 .1 .1 .0) (search needs) (search needs) in (((omega (arith, r .0), (omega (arith, r .1, l), (omega (arith, p .0 .0 .1 .1 .0, Q .appends .grows), p .1 .0 .1 .1))), (kept, subst (λ (x : List ℕ). NextBracket x (c .before .before .before .before .before .before .before .next-byte .result .0) (c .before .before .before .before .before .before .before .before .before .before .before .before .tag-at .result .bracket .0)) (sym kept) (bracket-past s (a .from .at .0) (c .before .before .before .before .before .before .before .next-byte .result .0) (omega (arith, r .0)) (r .1) (E .0)))), text-taken caption (a .e) (a .base) (a .end) (a .work .now) (a .numbers .now) (a .from .to .0) (a .starts .now) (a .tags .now) (a .from .depth) he hp hb hn ht (a .from .at .0) (p .0 .0 .0) (E .1 .0) (c .before .before .before .before .before .before .before .before .before .before .if1 .left) (E .1 .1) (c .before .before .before .before .before .before .before .before .before .if2 .left) (c .before .before .before .before .before .before .before .next-byte .ensures) Q)
 
 pub take-token-spec : {M : Type 1} → statement M
 take-token-spec =
