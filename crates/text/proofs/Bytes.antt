@@ -14,7 +14,7 @@ use Rattle.text.specs.Ascii.{inside, small, begins, toFirst}
 
 -- ---- ranges
 
-both : (a b : Bool) → (a && b) ≡ true → (a ≡ true) × (b ≡ true)
+pub both : (a b : Bool) → (a && b) ≡ true → (a ≡ true) × (b ≡ true)
 both true b h = (refl, h)
 both false b h = let z : true ≡ false = sym h in (h, cc)
 

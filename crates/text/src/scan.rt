@@ -3,7 +3,7 @@ use crate::PostAt;
 ghost use mathlib.Core.Path.{_≡_};
 ghost use Prim.Native.Nat.{_+_, _≤_};
 ghost use lib.ListN.{length, getD, drop};
-ghost use lib.Dec.{eqb, leb, ltb};
+ghost use lib.Dec.{eqb, ltb};
 ghost use Rattle.text.specs.Ascii.{inside, small, begins, toFirst, toBracket};
 
 // The byte at i, 0 past the end.
@@ -67,20 +67,6 @@ fn stands_in_16(s: &[u8], i: usize, b: u8) -> bool
         k += 1;
     }
     stands
-}
-
-// Whether one of the 16 bytes from i on is not ASCII.
-pub fn is_wide_16(s: &[u8], i: usize) -> bool
-    requires { ⌜ i + 16 ≤ length (now s) ⌝ }
-    ensures { λ r. ⌜ r ≡ ltb (toFirst (leb 128) (drop i (now (s .entry)))) 16 ⌝ }
-{
-    let mut wide = false;
-    let mut k: usize = 0;
-    while k < 16 {
-        wide = wide | (128 <= s[i + k]);
-        k += 1;
-    }
-    wide
 }
 
 // The place from which on to look for a byte one by one: none stands between.
