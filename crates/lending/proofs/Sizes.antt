@@ -1,12 +1,13 @@
 -- What a call that is not turned back by the refusals 1 to 4 knows of the lent sizes. Assumes nothing.
-use mathlib.Core.Path.{_≡_, refl, sym, _∙_}
-use mathlib.Core.Bool.{Bool, true, false, cond, _&&_}
+use mathlib.Core.Path.{_≡_, refl}
+use mathlib.Core.Bool.{Bool, true, false, cond}
 use mathlib.Core.List.{List}
 use Prim.Native.Nat.{ℕ, _+_, _*_, _≤_}
 use native.Mathlib.Omega.{arith}
 use lib.ListN.{length}
 use lib.Dec.{leb}
 use borrow.Author.Tests.{leb-true}
+use Rattle.text.proofs.Bytes.{both}
 use Rattle.lending.specs.Lent.{textMost, outMost, spansRight, sizesRight, checked}
 use Rattle.lending.specs.declared.lent.Refusal.{Refusal}
 use Rattle.lending.specs.declared.lent.Lent.{Lent}
@@ -19,10 +20,6 @@ pub record Enough (n : ℕ) (l : Lent) : Type 0 where
   pub origins : l .out ≤ l .origins
   pub work : n + 3 * l .out ≤ l .work
   pub numbers : 8 * n + 3 * l .out + 64 ≤ l .numbers
-
-both : (a b : Bool) → (a && b) ≡ true → (a ≡ true) × (b ≡ true)
-both true b h = (refl, h)
-both false b h = let z : true ≡ false = sym h in (h, cc)
 
 first-fine : (t : Bool) (x : Checked) (r : Refusal) → cond t x (Refused r) ≡ Fine → (t ≡ true) × (x ≡ Fine)
 first-fine true x r h = (refl, h)

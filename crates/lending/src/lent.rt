@@ -1,13 +1,14 @@
 // What is lent, and the refusals 1 to 4 that every operation on a text begins with (document 01, "Lent memory and turned-back calls").
+use crate::utf8::char_size;
 use crate::utf8::is_utf8;
-use text::PostAt;
-use text::scan::next_byte;
 ghost use mathlib.Core.Path.{_≡_};
-ghost use Prim.Native.Nat.{_≤_};
-ghost use lib.ListN.{length};
-ghost use lib.Dec.{eqb, ltb};
+ghost use mathlib.Core.Bool.{not, _&&_, _||_};
+ghost use Prim.Native.Nat.{_+_, _≤_};
+ghost use lib.ListN.{length, drop};
+ghost use lib.Dec.{leb, ltb};
 ghost use Rattle.text.specs.Ascii.{toFirst};
-ghost use Rattle.lending.specs.Lent.{numberOf, spansRight, sizesRight, anyZeroOrReturn, checked};
+ghost use Rattle.lending.specs.Utf8.{utf8};
+ghost use Rattle.lending.specs.Lent.{numberOf, spansRight, sizesRight, zeroOrReturn, anyZeroOrReturn, checked};
 
 // A text's greatest length, and an output's.
 pub const TEXT_MOST: usize = 262144;
@@ -93,20 +94,69 @@ fn sizes_right(n: usize, lent: Lent) -> bool
     spans_right(n, spans)
 }
 
-fn has_byte(s: &[u8], b: u8) -> bool
-    ensures { λ r. ⌜ r ≡ ltb (toFirst (λ x. eqb x b) (now (s .entry))) (length (now (s .entry))) ⌝ }
+fn is_zero_or_return(b: u8) -> bool
+    ensures { λ r. ⌜ r ≡ zeroOrReturn b ⌝ }
 {
-    let at = next_byte(s, PostAt(0), b);
-    at.0 < s.len()
+    (b == 0) | (b == 13)
 }
 
-fn has_zero_or_return(s: &[u8]) -> bool
-    ensures { λ r. ⌜ r ≡ anyZeroOrReturn (now (s .entry)) ⌝ }
+// Whether one of the 16 bytes from i on is odd: 0, 13 or not ASCII. One comparison of all 16 where the machine has it.
+fn has_odd_16(s: &[u8], i: usize) -> bool
+    requires { ⌜ i + 16 ≤ length (now s) ⌝ }
+    ensures { λ r. ⌜ r ≡ ltb (toFirst (λ x. leb 128 x || zeroOrReturn x) (drop i (now (s .entry)))) 16 ⌝ }
 {
-    if has_byte(s, 0) {
-        return true;
+    let mut has = false;
+    let mut k: usize = 0;
+    while k < 16 {
+        let b = s[i + k];
+        has = has | ((128 <= b) | is_zero_or_return(b));
+        k += 1;
     }
-    has_byte(s, 13)
+    has
+}
+
+// Past blocks of 16 bytes from a place on none of which is odd.
+fn past_clean(s: &[u8], at: usize) -> usize
+    requires { ⌜ at ≤ length (now s) ⌝ }
+    ensures { λ r. ⌜ (at ≤ r) × (r ≤ length (now (s .entry))) × ((utf8 (drop at (now (s .entry))) && not (anyZeroOrReturn (drop at (now (s .entry))))) ≡ (utf8 (drop r (now (s .entry))) && not (anyZeroOrReturn (drop r (now (s .entry)))))) ⌝ }
+{
+    let mut i = at;
+    while 16 <= s.len() - i {
+        if has_odd_16(s, i) {
+            return i;
+        }
+        i += 16;
+    }
+    i
+}
+
+// Whether neither refusal 3 nor 4 applies. Where a block is odd, its characters are read one by one: up to e.
+fn is_clean(s: &[u8]) -> bool
+    ensures { λ r. ⌜ r ≡ (utf8 (now (s .entry)) && not (anyZeroOrReturn (now (s .entry)))) ⌝ }
+{
+    let mut i: usize = 0;
+    let mut e: usize = 0;
+    while i < s.len() {
+        if e <= i {
+            i = past_clean(s, i);
+            e = i + 16;
+        } else {
+            let b = s[i];
+            if b < 128 {
+                if is_zero_or_return(b) {
+                    return false;
+                }
+                i += 1;
+            } else {
+                let n = char_size(s, i);
+                if n == 0 {
+                    return false;
+                }
+                i += n;
+            }
+        }
+    }
+    true
 }
 
 // The first of the refusals 1 to 4 that applies.
@@ -117,11 +167,11 @@ pub fn check(text: &[u8], lent: Lent) -> Checked
         return Checked::Refused(Refusal::TextTooLong);
     }
     if sizes_right(text.len(), lent) {
-        if is_utf8(text) {
-            if has_zero_or_return(text) {
-                return Checked::Refused(Refusal::ZeroOrReturn);
-            }
+        if is_clean(text) {
             return Checked::Fine;
+        }
+        if is_utf8(text) {
+            return Checked::Refused(Refusal::ZeroOrReturn);
         }
         return Checked::Refused(Refusal::NotUtf8);
     }

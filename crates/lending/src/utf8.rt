@@ -1,7 +1,6 @@
 // UTF-8 by RFC 3629, section 4.
 use text::scan::byte_at;
 use text::scan::is_inside;
-use text::scan::is_wide_16;
 ghost use mathlib.Core.Path.{_≡_};
 ghost use mathlib.Core.Bool.{_&&_};
 ghost use Prim.Native.Nat.{_≤_, _<_};
@@ -92,7 +91,7 @@ fn size_of(a: u8, b: u8, c: u8, d: u8) -> usize
 }
 
 // How many bytes the character at i has, 0 where none is well-formed there.
-fn char_size(s: &[u8], i: usize) -> usize
+pub fn char_size(s: &[u8], i: usize) -> usize
     requires { ⌜ i < length (now s) ⌝ }
     ensures { λ r. ⌜ r ≡ charSize (drop i (now (s .entry))) ⌝ }
 {
@@ -104,30 +103,11 @@ fn char_size(s: &[u8], i: usize) -> usize
     )
 }
 
-// Past blocks of 16 ASCII bytes from a place on.
-fn past_ascii(s: &[u8], at: usize) -> usize
-    requires { ⌜ at ≤ length (now s) ⌝ }
-    ensures { λ r. ⌜ (at ≤ r) × (r ≤ length (now (s .entry))) × (utf8 (drop at (now (s .entry))) ≡ utf8 (drop r (now (s .entry)))) ⌝ }
-{
-    let mut i = at;
-    while 16 <= s.len() - i {
-        if is_wide_16(s, i) {
-            return i;
-        }
-        i += 16;
-    }
-    i
-}
-
 pub fn is_utf8(s: &[u8]) -> bool
     ensures { λ r. ⌜ r ≡ utf8 (now (s .entry)) ⌝ }
 {
     let mut i: usize = 0;
     while i < s.len() {
-        i = past_ascii(s, i);
-        if s.len() <= i {
-            return true;
-        }
         let n = char_size(s, i);
         if n == 0 {
             return false;

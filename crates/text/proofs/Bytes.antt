@@ -14,7 +14,7 @@ use Rattle.text.specs.Ascii.{inside, small, begins, toFirst}
 
 -- ---- ranges
 
-both : (a b : Bool) → (a && b) ≡ true → (a ≡ true) × (b ≡ true)
+pub both : (a b : Bool) → (a && b) ≡ true → (a ≡ true) × (b ≡ true)
 both true b h = (refl, h)
 both false b h = let z : true ≡ false = sym h in (h, cc)
 
@@ -152,3 +152,11 @@ first-plain p s i lt h = by (p (getD s i 0)) refl
     by true e =
         let z : toFirst p (drop i s) ≡ 0 = rw (drop-cons s i 0 lt, e) in
         absurd (not-suc-le-zero (subst (λ (n : ℕ). 1 ≤ n) z h))
+
+-- the same from a place on
+pub first-plain-at : (p : ℕ → Bool) (s : List ℕ) (i j : ℕ) → i ≤ j → j < length s → j < i + toFirst p (drop i s) → p (getD s j 0) ≡ false
+first-plain-at p s i j le lt h =
+    let e : i + (j - i) ≡ j = omega arith in
+    let d : drop (j - i) (drop i s) ≡ drop j s = drop-drop (j - i) i s ∙ ap (λ (n : ℕ). drop n s) e in
+    let f = first-past p (drop i s) (j - i) (omega arith) in
+    first-plain p s j lt (rw (← d) (omega (arith, f)))

@@ -9,11 +9,10 @@ use native.Mathlib.Omega.{arith}
 use mathlib.Core.List.{List, [], _∷_, _++_, map, append-nil, append-assoc}
 use lib.ListN.{length, take, drop, getD, set, drop-of-length-le}
 use lib.Seq.{drop-cons, take-suc-set, take-all, append-snoc}
-use Rattle.text.specs.Ascii.{toFirst}
 use Rattle.text.specs.Blanks.{blank1, blankSize}
 use Rattle.text.specs.Cells.{Cell, cell, cells, blankAt, moreAfter, cellsFrom, cellsOf, written, sign}
 use Rattle.text.proofs.Writing.{cells-in, cells-short}
-use Rattle.text.proofs.Characters.{ascii-blank, ascii-at}
+use Rattle.text.proofs.Characters.{lead, plain-blank}
 
 -- the number of a cell stands for it
 pub cell-number : (b o f : ℕ) (t : Bool) → f ≡ cond t 1 0 → cell b (2 * o + f) ≡ record { byte = b; origin = o; blank = t }
@@ -78,35 +77,27 @@ numbered-turn s ns i more f more' h k p =
     rw (from-turn suc (i + 1) more f more' i s h p, cells-renumber s ns i (2 * (i + 1) + f))
     (simp add-one (rw (take-suc-set (cells s ns) i (cell (getD s i 0) (2 * suc i + f)) m, append-snoc (take i (cells s ns)))))
 
--- an ASCII byte
-pub ascii-turn : (s ns : List ℕ) (i f : ℕ) → i < length s → i < length ns → getD s i 0 < 128 → f ≡ cond (blank1 (getD s i 0)) 1 0
-    → numbered s i 0 ns ≡ numbered s (i + 1) 0 (set ns i (2 * (i + 1) + f))
+-- a byte that can't begin a blank character of more than one byte
+pub plain-turn : (s ns : List ℕ) (i x f : ℕ) → i < length s → i < length ns → lead (getD s i 0) ≡ false → x ≡ 2 * (i + 1) → f ≡ cond (blank1 (getD s i 0)) 1 0
+    → numbered s i 0 ns ≡ numbered s (i + 1) 0 (set ns i (x + f))
 unfolding blankAt moreAfter
-ascii-turn s ns i f h k a e =
-    let z : blankSize (drop i s) ≡ cond (blank1 (getD s i 0)) 1 0 = ascii-blank s i a in
-    numbered-turn s ns i 0 f 0 h k (rw z (by (blank1 (getD s i 0)) e))
+plain-turn s ns i x f h k a q e =
+    let z : blankSize (drop i s) ≡ cond (blank1 (getD s i 0)) 1 0 = plain-blank s i a in
+    rw q (numbered-turn s ns i 0 f 0 h k (rw z (by (blank1 (getD s i 0)) e)))
   where
     by : (t : Bool) → f ≡ cond t 1 0 → (f ≡ cond (ltb 0 0 || ltb 0 (cond t 1 0)) 1 0) × (0 ≡ cond (ltb 0 0) (0 - 1) (cond t 1 0 - 1))
     by true e = (e, refl)
     by false e = (e, refl)
 
-pub ascii-small : (b f : ℕ) → f ≡ cond (blank1 b) 1 0 → f ≤ 1
-ascii-small b f e = at-most-one f (blank1 b) e
-
-pub numbered-to : (s ns ns₀ : List ℕ) (i k n : ℕ) → k ≡ n → numbered s i 0 ns₀ ≡ numbered s (i + k) 0 ns → numbered s i 0 ns₀ ≡ numbered s (i + n) 0 ns
-numbered-to s ns ns₀ i k n e p = rw (← e) p
-
--- one of 16
-pub ascii-turn-16 : (s ns ns₀ : List ℕ) (i k f : ℕ) → k < 16 → i + 16 ≤ length s → length s ≤ length ns → 16 ≤ toFirst (leb 128) (drop i s)
-    → f ≡ cond (blank1 (getD s (i + k) 0)) 1 0 → numbered s i 0 ns₀ ≡ numbered s (i + k) 0 ns
-    → numbered s i 0 ns₀ ≡ numbered s (i + (k + 1)) 0 (set ns (i + k) (2 * (i + k + 1) + f))
-ascii-turn-16 s ns ns₀ i k f lt le n h e p =
-    let a = ascii-at s i k 16 lt le h in
-    let q : i + k + 1 ≡ i + (k + 1) = omega arith in
-    p ∙ ascii-turn s ns (i + k) f (omega arith) (omega arith) a e ∙ ap (λ (j : ℕ). numbered s j 0 (set ns (i + k) (2 * (i + k + 1) + f))) q
+pub plain-small : (b f : ℕ) → f ≡ cond (blank1 b) 1 0 → f ≤ 1
+plain-small b f e = at-most-one f (blank1 b) e
 
 pub numbered-end : (s ns : List ℕ) (i more : ℕ) → length s ≤ i → cells s ns ≡ numbered s i more ns
 numbered-end s ns i more h = rw (from-end suc (i + 1) more i s h, append-nil, take-all i (cells s ns) (let k = cells-short s ns in omega arith))
+
+-- at the end nothing is left of a blank character
+pub numbered-cut : (s ns : List ℕ) (i more : ℕ) → length s ≤ i → numbered s i more ns ≡ numbered s i 0 ns
+numbered-cut s ns i more h = sym (numbered-end s ns i more h) ∙ numbered-end s ns i 0 h
 
 -- ---- a text that a rule writes
 

@@ -2,13 +2,12 @@
 use crate::PostAt;
 use crate::scan::byte_at;
 use crate::scan::is_inside;
-use crate::scan::is_wide_16;
 ghost use mathlib.Core.Path.{_≡_};
-ghost use mathlib.Core.Bool.{cond};
+ghost use mathlib.Core.Bool.{cond, _&&_, _||_};
 ghost use mathlib.Core.List.{_++_};
-ghost use Prim.Native.Nat.{suc, _+_, _≤_, _<_};
+ghost use Prim.Native.Nat.{suc, _+_, _≤_, _<_, min};
 ghost use lib.ListN.{length, take, drop};
-ghost use lib.Dec.{leb};
+ghost use lib.Dec.{eqb, leb, ltb};
 ghost use Rattle.text.specs.Ascii.{toFirst};
 ghost use Rattle.text.specs.Blanks.{blank1, blank2, blankE280, blank3, blankWidth, blankSize};
 ghost use Rattle.text.specs.Cells.{blankAt, moreAfter, cells, cellsFrom, cellsOf};
@@ -137,47 +136,70 @@ fn ascii_blank(b: u8) -> u32
     0
 }
 
-// Numbers the 16 bytes from i on, all ASCII.
-fn number_16(s: &[u8], i: usize, nums: &mut [u32])
-    requires { ⌜ ((length (now s) ≤ 262144) × (length (now s) ≤ length (now nums))) × ((i + 16 ≤ length (now s)) × (16 ≤ toFirst (leb 128) (drop i (now s)))) ⌝ }
-    ensures { λ _. ⌜ take i (cells (now (s .entry)) (now (nums .entry))) ++ cellsFrom suc (i + 1) 0 (drop i (now (s .entry))) ≡ take (i + 16) (cells (now (s .entry)) (now (nums .exit))) ++ cellsFrom suc (i + 16 + 1) 0 (drop (i + 16) (now (s .entry))) ⌝ }
+// Whether one of the 16 bytes from i on can begin a blank character of more than one byte.
+fn has_lead_16(s: &[u8], i: usize) -> bool
+    requires { ⌜ i + 16 ≤ length (now s) ⌝ }
+    ensures { λ r. ⌜ r ≡ ltb (toFirst (λ x. eqb x 0xC2 || (leb 0xE1 x && leb x 0xE3)) (drop i (now (s .entry)))) 16 ⌝ }
 {
+    let mut has = false;
     let mut k: usize = 0;
     while k < 16 {
-        nums[i + k] = 2 * ((i + k + 1) as u32) + ascii_blank(s[i + k]);
+        let b = s[i + k];
+        has = has | ((b == 0xc2) | ((0xe1 <= b) & (b <= 0xe3)));
         k += 1;
+    }
+    has
+}
+
+// Past blocks of 16 bytes from a place on none of which can begin a blank character of more than one byte.
+fn past_plain(s: &[u8], at: usize) -> usize
+    requires { ⌜ at ≤ length (now s) ⌝ }
+    ensures { λ r. ⌜ (at ≤ r) × (r ≤ length (now (s .entry))) × (r ≤ at + toFirst (λ x. eqb x 0xC2 || (leb 0xE1 x && leb x 0xE3)) (drop at (now (s .entry)))) ⌝ }
+{
+    let mut i = at;
+    while 16 <= s.len() - i {
+        if has_lead_16(s, i) {
+            return i;
+        }
+        i += 16;
+    }
+    i
+}
+
+// Numbers the bytes from i up to e, none of which can begin a blank character of more than one byte. The loop is plain, so that several
+// bytes are numbered at once where the machine can.
+fn number_plain(s: &[u8], i: usize, e: usize, nums: &mut [u32])
+    requires { ⌜ ((length (now s) ≤ 262144) × (length (now s) ≤ length (now nums))) × ((i ≤ e) × (e ≤ length (now s)) × (e ≤ i + toFirst (λ x. eqb x 0xC2 || (leb 0xE1 x && leb x 0xE3)) (drop i (now s)))) ⌝ }
+    ensures { λ _. ⌜ take i (cells (now (s .entry)) (now (nums .entry))) ++ cellsFrom suc (i + 1) 0 (drop i (now (s .entry))) ≡ take e (cells (now (s .entry)) (now (nums .exit))) ++ cellsFrom suc (e + 1) 0 (drop e (now (s .entry))) ⌝ }
+{
+    let mut x = 2 * ((i + 1) as u32);
+    let mut j = i;
+    while j < e {
+        nums[j] = x + ascii_blank(s[j]);
+        x += 2;
+        j += 1;
     }
 }
 
-// Numbers the bytes from i up to e, where `more` bytes are left of a blank character that began before; how many are left behind e.
-fn number_part(s: &[u8], i: usize, e: usize, more: usize, nums: &mut [u32]) -> usize
-    requires { ⌜ ((length (now s) ≤ 262144) × (length (now s) ≤ length (now nums))) × ((i ≤ e) × (e ≤ length (now s))) ⌝ }
-    ensures { λ r. ⌜ take i (cells (now (s .entry)) (now (nums .entry))) ++ cellsFrom suc (i + 1) more (drop i (now (s .entry))) ≡ take e (cells (now (s .entry)) (now (nums .exit))) ++ cellsFrom suc (e + 1) r (drop e (now (s .entry))) ⌝ }
+// Numbers 16 bytes from i on, or fewer at the end, with what is left of a blank character that they cut; the place behind them.
+fn number_part(s: &[u8], i: usize, nums: &mut [u32]) -> usize
+    requires { ⌜ ((length (now s) ≤ 262144) × (length (now s) ≤ length (now nums))) × (i ≤ length (now s)) ⌝ }
+    ensures { λ r. ⌜ (min (i + 16) (length (now (s .entry))) ≤ r) × (r ≤ length (now (s .entry))) × (take i (cells (now (s .entry)) (now (nums .entry))) ++ cellsFrom suc (i + 1) 0 (drop i (now (s .entry))) ≡ take r (cells (now (s .entry)) (now (nums .exit))) ++ cellsFrom suc (r + 1) 0 (drop r (now (s .entry)))) ⌝ }
 {
-    let mut left = more;
+    let mut left: usize = 0;
     let mut j = i;
-    while j < e {
+    while j < s.len() {
+        if left == 0 {
+            if 16 <= j - i {
+                return j;
+            }
+        }
         let p = place_at(s, PostAt(j), left);
         nums[j] = 2 * ((j + 1) as u32) + p.blank;
         left = p.more;
         j += 1;
     }
-    left
-}
-
-// Numbers 16 bytes from i on.
-fn number_block(s: &[u8], i: usize, more: usize, nums: &mut [u32]) -> usize
-    requires { ⌜ ((length (now s) ≤ 262144) × (length (now s) ≤ length (now nums))) × (i + 16 ≤ length (now s)) ⌝ }
-    ensures { λ r. ⌜ take i (cells (now (s .entry)) (now (nums .entry))) ++ cellsFrom suc (i + 1) more (drop i (now (s .entry))) ≡ take (i + 16) (cells (now (s .entry)) (now (nums .exit))) ++ cellsFrom suc (i + 16 + 1) r (drop (i + 16) (now (s .entry))) ⌝ }
-{
-    if more == 0 {
-        if is_wide_16(s, i) {
-            return number_part(s, i, i + 16, 0, nums);
-        }
-        number_16(s, i, nums);
-        return 0;
-    }
-    number_part(s, i, i + 16, more, nums)
+    j
 }
 
 // Numbers the bytes of a text as a post's cells.
@@ -185,11 +207,10 @@ pub fn number(s: &[u8], nums: &mut [u32])
     requires { ⌜ (length (now s) ≤ 262144) × (length (now s) ≤ length (now nums)) ⌝ }
     ensures { λ _. ⌜ cells (now (s .entry)) (now (nums .exit)) ≡ cellsOf (now (s .entry)) ⌝ }
 {
-    let mut more: usize = 0;
     let mut i: usize = 0;
-    while 16 <= s.len() - i {
-        more = number_block(s, i, more, nums);
-        i += 16;
+    while i < s.len() {
+        let e = past_plain(s, i);
+        number_plain(s, i, e, nums);
+        i = number_part(s, e, nums);
     }
-    number_part(s, i, s.len(), more, nums);
 }

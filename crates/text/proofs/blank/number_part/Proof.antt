@@ -4,8 +4,7 @@ use mathlib.Core.Path.{_≡_, refl, sym, ap, _∙_}
 use Prim.Native.Nat.{ℕ, suc, _+_, _-_, _≤_, _<_}
 use mathlib.Core.List.{List, [], _∷_, _++_}
 use lib.ListN.{length, getD, length-set}
-use native.Mathlib.Nat.{le-antisymm}
-use Rattle.text.proofs.Numbering.{numbered, placed-small, numbered-turn}
+use Rattle.text.proofs.Numbering.{numbered, placed-small, numbered-turn, numbered-cut}
 use Rattle.text.proofs.blank.number_part.Statement.{statement}
 use Rattle.text.proofs.blank.number_part.Tie as tie
 use Rattle.text.proofs.blank.number_part.Reads as reads
@@ -13,13 +12,24 @@ use Rattle.text.proofs.blank.number_part.Lts as lts
 use Rattle.text.proofs.blank.place_at.Reads as place-at-reads
 
 abbrev Inv-loop : tie.InvT-loop
-Inv-loop s i e more nums₀ left₀ j₀ nums left j = (i ≤ j) × (j ≤ e) × (length nums ≡ length nums₀) × (numbered s i more nums₀ ≡ numbered s j left nums)
+Inv-loop s i nums₀ left₀ j₀ nums left j = (i ≤ j) × (j ≤ length s) × (length nums ≡ length nums₀) × (numbered s i 0 nums₀ ≡ numbered s j left nums)
 
 abbrev μ-loop : tie.MeasureT-loop
-μ-loop s i e more nums₀ left₀ j₀ nums left j = e - j
+μ-loop s i nums₀ left₀ j₀ nums left j = length s - j
 
 loop-holds : tie.Need-loop-holds Inv-loop μ-loop
 loop-holds c = (search needs, search needs, refl, refl)
+
+sub-if2 : tie.Need-sub-if2 Inv-loop μ-loop
+sub-if2 c = search needs
+
+same-length : tie.Need-same-length Inv-loop μ-loop
+same-length c = search needs
+
+returns : tie.Need-returns Inv-loop μ-loop
+returns c =
+    let l = c .before .before .before .loop in
+    (omega arith, l .inv .1, rw (c .before .if1 .taken) at (l .inv .3))
 
 place-at-requires : tie.Need-place-at-requires Inv-loop μ-loop
 place-at-requires c κs = search needs
@@ -50,16 +60,16 @@ loop-less c = search needs
 
 loop-again : tie.Need-loop-again Inv-loop μ-loop
 loop-again c =
-    let l = c .before .before .before .loop in
+    let l = c .before .before .before .before .loop in
     (search needs, search needs, simp length-set (omega arith), l .inv .3 ∙ numbered-turn _ _ (l .j) _ _ _ (omega arith) (omega arith) (c .before .place-at .ensures))
 
-same-length : tie.Need-same-length Inv-loop μ-loop
-same-length c = search needs
+same-length-2 : tie.Need-same-length-2 Inv-loop μ-loop
+same-length-2 c = search needs
 
-returns : tie.Need-returns Inv-loop μ-loop
-returns c =
+returns-2 : tie.Need-returns-2 Inv-loop μ-loop
+returns-2 c =
     let l = c .before .loop in
-    rw (le-antisymm (c .loop-test .left) (l .inv .1)) (l .inv .3)
+    (omega arith, l .inv .1, l .inv .3 ∙ numbered-cut _ _ (l .j) (l .left) (c .loop-test .left))
 
 pub number-part-spec : {M : Type 1} → statement M
 number-part-spec =
@@ -68,6 +78,9 @@ number-part-spec =
     Inv-loop
     μ-loop
     loop-holds
+    sub-if2
+    same-length
+    returns
     place-at-requires
     add-nums
     cast-nums
@@ -78,5 +91,5 @@ number-part-spec =
     add-j
     loop-less
     loop-again
-    same-length
-    returns)
+    same-length-2
+    returns-2)

@@ -1,31 +1,32 @@
 use borrow.Author.Needs.{needs}
 use native.Mathlib.Omega.{arith}
 use mathlib.Core.Path.{_≡_, refl, sym, ap, _∙_}
-use Prim.Native.Nat.{ℕ, suc, _+_, _-_, _≤_, _<_}
+use Prim.Native.Nat.{ℕ, suc, _+_, _-_, _*_, _≤_, _<_}
 use mathlib.Core.List.{List, [], _∷_, _++_}
 use lib.ListN.{length, getD, drop}
-use lib.Dec.{leb, ltb}
+use lib.Dec.{ltb}
 use Rattle.text.specs.Ascii.{toFirst}
 use Rattle.text.proofs.Bytes.{stands-none, stands-turn}
-use Rattle.text.proofs.scan.is_wide_16.Statement.{statement}
-use Rattle.text.proofs.scan.is_wide_16.Tie as tie
-use Rattle.text.proofs.scan.is_wide_16.Reads as reads
-use Rattle.text.proofs.scan.is_wide_16.Lts as lts
+use Rattle.text.proofs.Characters.{lead}
+use Rattle.text.proofs.blank.has_lead_16.Statement.{statement}
+use Rattle.text.proofs.blank.has_lead_16.Tie as tie
+use Rattle.text.proofs.blank.has_lead_16.Reads as reads
+use Rattle.text.proofs.blank.has_lead_16.Lts as lts
 
 abbrev Inv-loop : tie.InvT-loop
-Inv-loop s i wide₀ k₀ wide k = (k ≤ 16) × (wide ≡ ltb (toFirst (leb 128) (drop i s)) k)
+Inv-loop s i has₀ k₀ has k = (k ≤ 16) × (has ≡ ltb (toFirst lead (drop i s)) k)
 
 abbrev μ-loop : tie.MeasureT-loop
-μ-loop s i wide₀ k₀ wide k = 16 - k
+μ-loop s i has₀ k₀ has k = 16 - k
 
 loop-holds : tie.Need-loop-holds Inv-loop μ-loop
-loop-holds c = (search needs, stands-none _ (c .args .s .now) (c .args .i))
+loop-holds c = (search needs, stands-none lead (c .args .s .now) (c .args .i))
 
-add-wide : tie.Need-add-wide Inv-loop μ-loop
-add-wide c = search needs
+add-b : tie.Need-add-b Inv-loop μ-loop
+add-b c = search needs
 
-shared-slice-read-wide : tie.Need-shared-slice-read-wide Inv-loop μ-loop
-shared-slice-read-wide c = search needs
+shared-slice-read-b : tie.Need-shared-slice-read-b Inv-loop μ-loop
+shared-slice-read-b c = search needs
 
 add-k : tie.Need-add-k Inv-loop μ-loop
 add-k c = search needs
@@ -37,7 +38,7 @@ loop-again : tie.Need-loop-again Inv-loop μ-loop
 loop-again c =
     let l = c .before .before .loop in
     let a = c .before .before .before .args in
-    (search needs, stands-turn _ (a .s .now) (a .i) (l .k) (l .wide) (omega arith) (l .inv .1))
+    (search needs, stands-turn lead (a .s .now) (a .i) (l .k) (l .has) (omega arith) (l .inv .1))
 
 returns : tie.Need-returns Inv-loop μ-loop
 returns c =
@@ -45,15 +46,15 @@ returns c =
     let e : l .k ≡ 16 = omega arith in
     l .inv .1 ∙ ap (ltb _) e
 
-pub is-wide-16-spec : {M : Type 1} → statement M
-is-wide-16-spec =
+pub has-lead-16-spec : {M : Type 1} → statement M
+has-lead-16-spec =
     tie.close
     (tie.spec
     Inv-loop
     μ-loop
     loop-holds
-    add-wide
-    shared-slice-read-wide
+    add-b
+    shared-slice-read-b
     add-k
     loop-less
     loop-again
