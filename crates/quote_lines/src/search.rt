@@ -12,7 +12,7 @@ ghost use Prim.Native.Nat.{_+_, _-_, _*_, _≤_, _<_};
 ghost use lib.ListN.{length, take, drop};
 ghost use Rattle.text.specs.Ascii.{toBracket};
 ghost use Rattle.quote_tags.specs.Tags.{NextBracket, openerSize};
-ghost use Rattle.quote_lines.specs.Lines.{bare, lineAfter, tags, same, place, nextAfter, lineAt};
+ghost use Rattle.quote_lines.specs.Lines.{bare, tags, same, place, nextAfter, lineAt};
 ghost use Rattle.quote_lines.specs.Tables.{wordsAt, WordsAt, TagAt, Table, LinesRead, lineIn, Tabled, NextOpener, linesBehind, PastBackslashes};
 
 // A place in the text, the place of the next `]`, the line there, and how many tags stand in the table.
@@ -79,17 +79,6 @@ fn same_bare(s: &[u8], a: &[u8]) -> bool
     true
 }
 
-// The line behind a byte.
-fn line_after(b: u8, line: usize) -> usize
-    requires { ⌜ line ≤ 1000000 ⌝ }
-    ensures { λ r. ⌜ (r ≡ lineAfter b line) × (r ≤ line + 1) ⌝ }
-{
-    if b == b'\n' {
-        return line + 1;
-    }
-    line
-}
-
 // The line behind the text from a place up to another.
 fn line_behind(s: &[u8], a: usize, e: usize, line: usize) -> usize
     requires { ⌜ (a ≤ e) × ((e ≤ length (now s)) × (line + (e - a) ≤ 1000000)) ⌝ }
@@ -98,7 +87,12 @@ fn line_behind(s: &[u8], a: usize, e: usize, line: usize) -> usize
     let mut i = a;
     let mut now_line = line;
     while i < e {
-        now_line = line_after(s[i], now_line);
+        let feed = next_byte(&s[..e], PostAt(i), b'\n');
+        i = feed.0;
+        if e <= i {
+            return now_line;
+        }
+        now_line += 1;
         i += 1;
     }
     now_line
