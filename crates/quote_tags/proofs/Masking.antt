@@ -262,7 +262,7 @@ module _ (m m' : Mask) (eo : (s : List ℕ) → beginsAny (m .opens) s ≡ begin
   unfolding tagSize
   end-same s = rw (ec s)
 
-  region-same : (s : List ℕ) → region m s ≡ region m' s
+  pub region-same : (s : List ℕ) → region m s ≡ region m' s
   unfolding region
   region-same s =
       rw (opener-same s, closer-same (drop (tagSize (m' .opens) s) s), end-same (drop (tagSize (m' .opens) s + toCloser (m' .closes) (drop (tagSize (m' .opens) s) s)) s))
