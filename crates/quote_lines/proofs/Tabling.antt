@@ -14,7 +14,7 @@ use borrow.Author.Tests.{eqb-true, eq-eqb}
 use Rattle.text.specs.Ascii.{is, begins, small, inside, toFirst, toBracket}
 use Rattle.text.proofs.Bytes.{first-within, first-stops}
 use Rattle.quote_tags.proofs.Masking.{drop-take-take}
-use Rattle.quote_tags.proofs.Plain.{run-first, opener-plain}
+use Rattle.quote_tags.proofs.Places.{between-none, between-one}
 use Rattle.quote_tags.specs.Tags.{NextBracket, beginsAny, tagSize, upToBracket, openers, openerSize, attributionOf}
 use Rattle.quote_lines.specs.Lines.{Tag, bare, lineAfter, tags}
 use Rattle.quote_lines.specs.Tables.{wordsAt, TagAt, noTag, Table, Tabled, Untagged, NextOpener, linesBehind}
@@ -117,42 +117,31 @@ under zero n x f line = rw zero-add (f line)
 under (suc k) n [] f line = refl
 under (suc k) n (b ∷ x) f line = rw suc-add (under k n x f (lineAfter b line))
 
-run-skipped : (n line : ℕ) (x : List ℕ) → n ≤ toFirst (is "[") x → tags line 0 x ≡ tags line n x
+run-skipped : (n line : ℕ) (x : List ℕ) → ((j : ℕ) → j < n → openerSize (drop j x) ≡ 0) → tags line 0 x ≡ tags line n x
 unfolding tags linesBehind
-run-skipped zero line x h = refl
-run-skipped (suc n) line [] h = refl
-run-skipped (suc n) line (b ∷ x) h =
-    let f = run-first n b x h in
-    first-byte line b x (opener-plain b x (f .0)) ∙ run-skipped n (lineAfter b line) x (f .1)
-
-byte-skipped : (line : ℕ) (x : List ℕ) → openerSize x ≡ 0 → tags line 0 x ≡ tags line 1 x
-unfolding tags linesBehind
-byte-skipped line [] e = refl
-byte-skipped line (b ∷ x) e = first-byte line b x e
+run-skipped zero line x f = refl
+run-skipped (suc n) line [] f = refl
+run-skipped (suc n) line (b ∷ x) f = first-byte line b x (f 0 (omega arith)) ∙ run-skipped n (lineAfter b line) x (λ j h. f (suc j) (omega arith))
 
 pub untagged : (s : List ℕ) (i : ℕ) → i ≤ length s → Untagged s i i
 untagged s i h = record { order = omega arith; inside = h; skip = λ line. (let z : i - i ≡ 0 = omega arith in rw z) }
 
 module _ {s : List ℕ} {a i : ℕ} (w : Untagged s a i) where
-  further : (n : ℕ) → i + n ≤ length s → ((line : ℕ) → tags line 0 (drop i s) ≡ tags line n (drop i s)) → Untagged s a (i + n)
-  further n le f =
+  pub untagged-run : {q : ℕ} → ((i ≤ q) × (q ≤ length s)) × ((j : ℕ) → i ≤ j → j < q → openerSize (drop j s) ≡ 0) → Untagged s a q
+  untagged-run {q} ((le, lq), f) =
       let x : a + (i - a) ≡ i = omega (arith, w .order) in
-      let y : i - a + n ≡ i + n - a = omega (arith, w .order) in
+      let y : i - a + (q - i) ≡ q - a = omega (arith, w .order) in
       let d : drop (i - a) (drop a s) ≡ drop i s = drop-drop (i - a) a s ∙ ap (λ (k : ℕ). drop k s) x in
       record {
         order = omega (arith, w .order);
-        inside = le;
-        skip = λ line. w .skip line ∙ under (i - a) n (drop a s) (λ l. rw d (f l)) line ∙ ap (λ (k : ℕ). tags line k (drop a s)) y;
+        inside = lq;
+        skip = λ line. w .skip line
+            ∙ under (i - a) (q - i) (drop a s) (λ l. rw d (run-skipped (q - i) l (drop i s) (λ j h. ap openerSize (drop-drop j i s) ∙ f (i + j) (omega arith) (omega arith)))) line
+            ∙ ap (λ (k : ℕ). tags line k (drop a s)) y;
       }
 
-  pub untagged-run : {q : ℕ} → q ≡ i + toFirst (is "[") (drop i s) → Untagged s a q
-  untagged-run e =
-      let f = first-within (is "[") (drop i s) in
-      let l = length-drop i s in
-      rw e (further _ (omega (arith, f, l, w .inside)) (λ line. run-skipped _ line (drop i s) (omega arith)))
-
   pub untagged-byte : i < length s → openerSize (drop i s) ≡ 0 → Untagged s a (i + 1)
-  untagged-byte lt e = further 1 (omega arith) (λ line. byte-skipped line (drop i s) e)
+  untagged-byte lt e = untagged-run ((omega arith, omega arith), between-one (λ j. openerSize (drop j s) ≡ 0) i i (between-none (λ j. openerSize (drop j s) ≡ 0) i) e)
 
 pub opener-found : {s : List ℕ} {a q p b k : ℕ} → Untagged s a q → p ≡ q → k ≡ openerSize (drop q s) → NextBracket s q b → ((k ≡ 0 → ⊥) → b ≡ q + toBracket (drop q s)) → (k ≡ 0 → ⊥) → NextOpener s a p b k
 opener-found {s} {a} {q} {p} {b} {k} u e es nb cl n =

@@ -1,7 +1,7 @@
 -- Laws of masks that find nothing to mask. Assumes nothing.
 use mathlib.Core.Path.{_≡_, refl, sym, ap, _∙_}
 use Prim.Native.Nat.{ℕ, zero, suc, _+_, _-_, _<_}
-use native.Mathlib.Nat.{add-zero, zero-sub}
+use native.Mathlib.Nat.{zero-sub}
 use native.Mathlib.Omega.{arith}
 use mathlib.Core.Bool.{Bool, true, false, not, _&&_, _||_, true≢false}
 use mathlib.Core.List.{List, [], _∷_, _++_, append-nil}
@@ -15,7 +15,7 @@ use Rattle.quote_tags.specs.Masks.{Mask, region, shown, masked, code, ic
 use Rattle.quote_tags.proofs.Tagging.{tag-not}
 use Rattle.quote_tags.proofs.Masking.{region-none}
 use Rattle.quote_tags.proofs.Places.{Between}
-use Rattle.quote_tags.proofs.Plain.{small-open, byte-other, neither, letter-other}
+use Rattle.quote_tags.proofs.Plain.{small-open, byte-other, neither, letter-other, first-here}
 
 -- ---- a mask where none begins
 
@@ -100,12 +100,9 @@ module _ (x : List ℕ) where
 
 -- the same by place
 module _ (s : List ℕ) (i : ℕ) where
-  first-here : getD (drop i s) 0 0 ≡ getD s i 0
-  first-here = rw (getD-drop i s 0 0, add-zero)
-
   pub no-tag-at : eqb (getD s i 0) 91 ≡ false → NoMask (drop i s)
-  no-tag-at q = no-tag (drop i s) (λ z. eqb-false (getD s i 0) 91 q (sym first-here ∙ z))
+  no-tag-at q = no-tag (drop i s) (λ z. eqb-false (getD s i 0) 91 q (sym (first-here s i) ∙ z))
 
   pub not-open-at : {r : Bool} {a b c : ℕ} → (r ≡ false → (x : List ℕ) → getD x 0 0 ≡ a → getD x 1 0 ≡ b → getD x 2 0 ≡ c → NoMask x)
       → a ≡ getD s i 0 → b ≡ getD s (i + 1) 0 → c ≡ getD s (i + 2) 0 → r ≡ false → NoMask (drop i s)
-  not-open-at f ea eb ec q = f q (drop i s) (first-here ∙ sym ea) (getD-drop i s 1 0 ∙ sym eb) (getD-drop i s 2 0 ∙ sym ec)
+  not-open-at f ea eb ec q = f q (drop i s) (first-here s i ∙ sym ea) (getD-drop i s 1 0 ∙ sym eb) (getD-drop i s 2 0 ∙ sym ec)

@@ -178,7 +178,8 @@ fn byte_for(left: usize, b: u8) -> usize
     b as usize
 }
 
-// Whether a word that opens a mask may begin with these bytes: `[c`, `[n`, or `[i` and no `]`.
+// Whether a word that opens a mask may begin with these bytes: `[c`, `[n`, or `[i` and no `]`. (Of 16 places at once a machine tells `]` from
+// other bytes with less work than the c of `[icode]`.)
 fn may_open(a: u8, b: u8, c: u8) -> bool
     ensures { λ r. ⌜ (r ≡ false → (x : List ℕ) → getD x 0 0 ≡ a → getD x 1 0 ≡ b → getD x 2 0 ≡ c → NoMask x) ⌝ }
 {
