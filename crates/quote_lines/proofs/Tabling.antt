@@ -1,31 +1,41 @@
 -- Laws of the table of quote tags: s is the text, ns the numbers. Assumes nothing.
 use mathlib.Core.Path.{_≡_, refl, sym, ap, subst, _∙_}
 use Prim.Native.Nat.{ℕ, zero, suc, _+_, _-_, _*_, _≤_, _<_}
-use native.Mathlib.Nat.{add-zero, zero-add, suc-add}
+use native.Mathlib.Nat.{add-zero, zero-add, suc-add, le-of-suc-le-suc, not-suc-le-zero}
 use native.Mathlib.Omega.{arith}
 use native.Mathlib.Decide.{decLe}
 use native.Mathlib.Numerals.{add-one}
 use mathlib.Core.Bool.{Bool, true, false, cond, _&&_, _||_, true≢false}
 use mathlib.Core.List.{List, [], _∷_}
-use lib.ListN.{length, take, drop, getD, set, length-set, length-drop, drop-of-length-le}
-use lib.Seq.{drop-cons, drop-drop, getD-drop, getD-take, getD-set-same, getD-set-other, take-take, take-set-le}
+use lib.ListN.{length, take, drop, getD, set, length-set, length-take, length-drop, drop-of-length-le}
+use lib.Seq.{drop-cons, drop-drop, getD-drop, getD-take, getD-set-same, getD-set-other, take-take, take-set-le, length-take-le}
 use lib.Dec.{eqb, ltb}
 use borrow.Author.Tests.{eqb-true, eq-eqb}
 use Rattle.text.specs.Ascii.{is, begins, small, inside, toFirst, toBracket}
-use Rattle.text.proofs.Bytes.{first-within}
-use Rattle.quote_tags.proofs.Plain.{run-first, opener-plain}
+use Rattle.text.proofs.Bytes.{first-within, first-stops}
+use Rattle.quote_tags.proofs.Masking.{drop-take-take}
+use Rattle.quote_tags.proofs.Places.{between-none, between-one}
 use Rattle.quote_tags.specs.Tags.{NextBracket, beginsAny, tagSize, upToBracket, openers, openerSize, attributionOf}
 use Rattle.quote_lines.specs.Lines.{Tag, bare, lineAfter, tags}
 use Rattle.quote_lines.specs.Tables.{wordsAt, TagAt, noTag, Table, Tabled, Untagged, NextOpener, linesBehind}
 
 -- ---- lines
 
-pub line-feed : (b line : ℕ) → b ≡ 10 → line + 1 ≡ lineAfter b line
-line-feed b line e = rw (eq-eqb b 10 e, add-one)
+-- no line feed among the first n bytes
+lines-run : (n line : ℕ) (x : List ℕ) → n ≤ toFirst (is "\n") x → linesBehind line x ≡ linesBehind line (drop n x)
+unfolding linesBehind toFirst
+lines-run zero line x h = refl
+lines-run (suc n) line [] h = refl
+lines-run (suc n) line (b ∷ x) h = by (is "\n" b) h (lines-run n line x)
+  where
+    by : (t : Bool) → suc n ≤ cond t 0 (suc (toFirst (is "\n") x)) → (n ≤ toFirst (is "\n") x → linesBehind line x ≡ linesBehind line (drop n x))
+        → linesBehind (cond t (suc line) line) x ≡ linesBehind line (drop n x)
+    by true q k = absurd (not-suc-le-zero q)
+    by false q k = k (le-of-suc-le-suc q)
 
 -- the line behind what stands from i up to e is the line behind what stands from a up to e
 pub record Behind (s : List ℕ) (a e line i now : ℕ) : Type 0 where
-  pub same : linesBehind now (take (e - i) (drop i s)) ≡ linesBehind line (take (e - a) (drop a s))
+  pub same : linesBehind now (drop i (take e s)) ≡ linesBehind line (drop a (take e s))
   pub most : now ≤ line + (i - a)
   pub order : a ≤ i
   pub inside : i ≤ e
@@ -33,21 +43,38 @@ pub record Behind (s : List ℕ) (a e line i now : ℕ) : Type 0 where
 pub behind : (s : List ℕ) (a e line : ℕ) → a ≤ e → Behind s a e line a line
 behind s a e line h = record { same = refl; most = omega arith; order = omega arith; inside = h }
 
-module _ (s : List ℕ) (a e line i now : ℕ) (w : Behind s a e line i now) where
-  pub behind-on : {next : ℕ} → i < e → e ≤ length s → (next ≡ lineAfter (getD s i 0) now) × (next ≤ now + 1) → Behind s a e line (i + 1) next
-  unfolding linesBehind
-  behind-on {next} lt le (q, m) =
-      let k : e - i ≡ suc (e - (i + 1)) = omega arith in
-      let d : drop i s ≡ getD s i 0 ∷ drop (i + 1) s = rw add-one (drop-cons s i 0 (omega arith)) in
-      let t : linesBehind now (take (e - i) (drop i s)) ≡ linesBehind next (take (e - (i + 1)) (drop (i + 1) s)) = rw (k, d, q) in
-      record { same = sym t ∙ w .same; most = omega (arith, w .most, w .order); order = omega (arith, w .order); inside = omega arith }
-
+module _ {s : List ℕ} {a e line i now : ℕ} (w : Behind s a e line i now) where
   pub behind-end : e ≤ i → (now ≡ linesBehind line (take (e - a) (drop a s))) × (now ≤ line + (e - a))
   unfolding linesBehind
   behind-end le =
-      let z : e - i ≡ 0 = omega arith in
-      let t : linesBehind now (take (e - i) (drop i s)) ≡ now = rw z in
-      (sym t ∙ w .same, omega (arith, w .most, w .inside))
+      let z : drop i (take e s) ≡ [] = drop-of-length-le (take e s) {i = i} (let l = length-take e s in omega arith) in
+      let t : linesBehind now (drop i (take e s)) ≡ now = rw z in
+      (sym t ∙ w .same ∙ ap (linesBehind line) (drop-take-take a e s), omega (arith, w .most, w .inside))
+
+  -- the next line feed, or the end, stands at q
+  module _ {q : ℕ} (le : e ≤ length s) (f : q ≡ i + toFirst (is "\n") (drop i (take e s))) where
+    pub behind-run : Behind s a e line q now
+    behind-run =
+        let l : length (take e s) ≡ e = length-take-le e s le in
+        let d = length-drop i (take e s) in
+        let n = first-within (is "\n") (drop i (take e s)) in
+        let x : i + (q - i) ≡ q = omega arith in
+        let r : linesBehind now (drop i (take e s)) ≡ linesBehind now (drop q (take e s)) =
+        lines-run (q - i) now (drop i (take e s)) (omega arith) ∙ ap (linesBehind now) (drop-drop (q - i) i (take e s) ∙ ap (λ (j : ℕ). drop j (take e s)) x) in
+        record { same = sym r ∙ w .same; most = omega (arith, w .most, w .order); order = omega (arith, w .order); inside = omega (arith, n, w .inside) }
+
+    pub behind-feed : q < e → Behind s a e line (q + 1) (now + 1)
+    unfolding linesBehind
+    behind-feed lt =
+        let v = behind-run in
+        let l : length (take e s) ≡ e = length-take-le e s le in
+        let m = length-drop i (take e s) in
+        let b : is "\n" (getD (take e s) q 0) ≡ true =
+        ap (λ (j : ℕ). is "\n" (getD (take e s) j 0)) f ∙ ap (is "\n") (sym (getD-drop i (take e s) _ 0)) ∙ first-stops (is "\n") (drop i (take e s)) (omega arith) in
+        let d : drop q (take e s) ≡ getD (take e s) q 0 ∷ drop (q + 1) (take e s) = rw add-one (drop-cons (take e s) q 0 (omega arith)) in
+        let g : lineAfter (getD (take e s) q 0) now ≡ now + 1 = rw (b, add-one) in
+        let t : linesBehind now (drop q (take e s)) ≡ linesBehind (now + 1) (drop (q + 1) (take e s)) = ap (linesBehind now) d ∙ ap (λ (n : ℕ). linesBehind n (drop (q + 1) (take e s))) g in
+        record { same = sym t ∙ v .same; most = omega (arith, v .most, v .order); order = omega (arith, v .order); inside = omega arith }
 
 -- ---- the tags from a place on
 
@@ -90,42 +117,31 @@ under zero n x f line = rw zero-add (f line)
 under (suc k) n [] f line = refl
 under (suc k) n (b ∷ x) f line = rw suc-add (under k n x f (lineAfter b line))
 
-run-skipped : (n line : ℕ) (x : List ℕ) → n ≤ toFirst (is "[") x → tags line 0 x ≡ tags line n x
+run-skipped : (n line : ℕ) (x : List ℕ) → ((j : ℕ) → j < n → openerSize (drop j x) ≡ 0) → tags line 0 x ≡ tags line n x
 unfolding tags linesBehind
-run-skipped zero line x h = refl
-run-skipped (suc n) line [] h = refl
-run-skipped (suc n) line (b ∷ x) h =
-    let f = run-first n b x h in
-    first-byte line b x (opener-plain b x (f .0)) ∙ run-skipped n (lineAfter b line) x (f .1)
-
-byte-skipped : (line : ℕ) (x : List ℕ) → openerSize x ≡ 0 → tags line 0 x ≡ tags line 1 x
-unfolding tags linesBehind
-byte-skipped line [] e = refl
-byte-skipped line (b ∷ x) e = first-byte line b x e
+run-skipped zero line x f = refl
+run-skipped (suc n) line [] f = refl
+run-skipped (suc n) line (b ∷ x) f = first-byte line b x (f 0 (omega arith)) ∙ run-skipped n (lineAfter b line) x (λ j h. f (suc j) (omega arith))
 
 pub untagged : (s : List ℕ) (i : ℕ) → i ≤ length s → Untagged s i i
 untagged s i h = record { order = omega arith; inside = h; skip = λ line. (let z : i - i ≡ 0 = omega arith in rw z) }
 
 module _ {s : List ℕ} {a i : ℕ} (w : Untagged s a i) where
-  further : (n : ℕ) → i + n ≤ length s → ((line : ℕ) → tags line 0 (drop i s) ≡ tags line n (drop i s)) → Untagged s a (i + n)
-  further n le f =
+  pub untagged-run : {q : ℕ} → ((i ≤ q) × (q ≤ length s)) × ((j : ℕ) → i ≤ j → j < q → openerSize (drop j s) ≡ 0) → Untagged s a q
+  untagged-run {q} ((le, lq), f) =
       let x : a + (i - a) ≡ i = omega (arith, w .order) in
-      let y : i - a + n ≡ i + n - a = omega (arith, w .order) in
+      let y : i - a + (q - i) ≡ q - a = omega (arith, w .order) in
       let d : drop (i - a) (drop a s) ≡ drop i s = drop-drop (i - a) a s ∙ ap (λ (k : ℕ). drop k s) x in
       record {
         order = omega (arith, w .order);
-        inside = le;
-        skip = λ line. w .skip line ∙ under (i - a) n (drop a s) (λ l. rw d (f l)) line ∙ ap (λ (k : ℕ). tags line k (drop a s)) y;
+        inside = lq;
+        skip = λ line. w .skip line
+            ∙ under (i - a) (q - i) (drop a s) (λ l. rw d (run-skipped (q - i) l (drop i s) (λ j h. ap openerSize (drop-drop j i s) ∙ f (i + j) (omega arith) (omega arith)))) line
+            ∙ ap (λ (k : ℕ). tags line k (drop a s)) y;
       }
 
-  pub untagged-run : {q : ℕ} → q ≡ i + toFirst (is "[") (drop i s) → Untagged s a q
-  untagged-run e =
-      let f = first-within (is "[") (drop i s) in
-      let l = length-drop i s in
-      rw e (further _ (omega (arith, f, l, w .inside)) (λ line. run-skipped _ line (drop i s) (omega arith)))
-
   pub untagged-byte : i < length s → openerSize (drop i s) ≡ 0 → Untagged s a (i + 1)
-  untagged-byte lt e = further 1 (omega arith) (λ line. byte-skipped line (drop i s) e)
+  untagged-byte lt e = untagged-run ((omega arith, omega arith), between-one (λ j. openerSize (drop j s) ≡ 0) i i (between-none (λ j. openerSize (drop j s) ≡ 0) i) e)
 
 pub opener-found : {s : List ℕ} {a q p b k : ℕ} → Untagged s a q → p ≡ q → k ≡ openerSize (drop q s) → NextBracket s q b → ((k ≡ 0 → ⊥) → b ≡ q + toBracket (drop q s)) → (k ≡ 0 → ⊥) → NextOpener s a p b k
 opener-found {s} {a} {q} {p} {b} {k} u e es nb cl n =

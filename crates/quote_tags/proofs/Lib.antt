@@ -1,3 +1,4 @@
+pub mod Places
 pub mod Tagging
 pub mod Plain
 pub mod Masking

@@ -136,7 +136,7 @@ unfolding masked
 masked-turn m zero b s = refl
 masked-turn m (suc left) b s = let e : suc left - 1 ≡ left = omega arith in rw (lt-ltb 0 (suc left) (omega arith), e)
 
-drop-take-take : (j n : ℕ) (zs : List ℕ) → drop j (take n zs) ≡ take (n - j) (drop j zs)
+pub drop-take-take : (j n : ℕ) (zs : List ℕ) → drop j (take n zs) ≡ take (n - j) (drop j zs)
 drop-take-take zero n zs = rw sub-zero
 drop-take-take (suc j) zero zs = rw zero-sub
 drop-take-take (suc j) (suc n) [] = rw (suc-sub-suc, take-nil)
@@ -262,7 +262,7 @@ module _ (m m' : Mask) (eo : (s : List ℕ) → beginsAny (m .opens) s ≡ begin
   unfolding tagSize
   end-same s = rw (ec s)
 
-  region-same : (s : List ℕ) → region m s ≡ region m' s
+  pub region-same : (s : List ℕ) → region m s ≡ region m' s
   unfolding region
   region-same s =
       rw (opener-same s, closer-same (drop (tagSize (m' .opens) s) s), end-same (drop (tagSize (m' .opens) s + toCloser (m' .closes) (drop (tagSize (m' .opens) s) s)) s))

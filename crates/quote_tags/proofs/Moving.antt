@@ -3,17 +3,12 @@ use mathlib.Core.Path.{_≡_, refl, sym, ap, _∙_}
 use Prim.Native.Nat.{ℕ, zero, suc, _+_, _-_, _≤_, _<_}
 use native.Mathlib.Omega.{arith}
 use native.Mathlib.Numerals.{add-one}
-use mathlib.Core.Bool.{Bool, true, false, cond}
 use mathlib.Core.List.{List, [], _∷_, _++_, append-assoc, append-nil}
-use lib.Dec.{ltb}
 use lib.ListN.{length, take, drop, getD, set, length-set, length-drop}
 use lib.Seq.{take-add, take-suc, take-suc-set, drop-set-lt, drop-drop, getD-drop, length-take-le}
-use borrow.Author.Tests.{lt-ltb}
-use Rattle.text.specs.Ascii.{is, toFirst}
-use Rattle.text.proofs.Bytes.{first-within}
-use Rattle.quote_tags.specs.Masks.{Mask, masked, MovedDown, KnownCloser}
+use Rattle.quote_tags.specs.Masks.{Mask, region, masked, NoMask, MovedDown, KnownCloser}
 use Rattle.quote_tags.proofs.Tagging.{part-before}
-use Rattle.quote_tags.proofs.Plain.{Bracketed, bracket-past}
+use Rattle.quote_tags.proofs.Plain.{bracket-past}
 use Rattle.quote_tags.proofs.Masking.{Masking, unread, first-of}
 use Rattle.quote_tags.proofs.Unmasking.{masked-run}
 
@@ -71,25 +66,23 @@ module _ {xs : List ℕ} {a e to : ℕ} {buf : List ℕ} {i t : ℕ} (w : Moving
 
 -- ---- a run outside regions
 
-run-kept : (m : Mask) (left k : ℕ) (x : List ℕ) → Bracketed (m .opens) → k ≡ cond (ltb 0 left) 0 (toFirst (is "[") x) → masked m left x ≡ take k x ++ masked m left (drop k x)
-run-kept m zero k x o e = masked-run m k x o (omega (arith, e))
-run-kept m (suc left) k x o e = let z : k ≡ 0 = e ∙ rw (lt-ltb 0 (suc left) (omega arith)) in rw z
+pub size-now : {m : Mask} {s : List ℕ} {n : ℕ} {buf : List ℕ} {i to left b f q : ℕ} → Masking m s n buf i to left b f q → n ≤ length s → length (take n buf) ≡ n
+size-now {m} {s} {n} {buf} w le = length-take-le n buf (omega (arith, w .same))
 
-module _ {m : Mask} {s : List ℕ} {n : ℕ} {buf : List ℕ} {i to left b f q : ℕ} (w : Masking m s n buf i to left b f q) (o : Bracketed (m .opens)) (le : n ≤ length s) {p : ℕ}
-    (e : p ≡ i + cond (ltb 0 left) 0 (toFirst (is "[") (drop i (take n buf)))) where
-  steps : p - i ≡ cond (ltb 0 left) 0 (toFirst (is "[") (drop i (take n s)))
-  steps = let z : p - i ≡ cond (ltb 0 left) 0 (toFirst (is "[") (drop i (take n buf))) = omega (arith, e) in
-      z ∙ ap (λ (x : List ℕ). cond (ltb 0 left) 0 (toFirst (is "[") x)) (unread i i n buf s (w .rest) (omega arith))
+run-kept : (m : Mask) (left k : ℕ) (x : List ℕ) → ((j : ℕ) → j < k → (left ≡ 0) × (region m (drop j x) ≡ 0)) → masked m left x ≡ take k x ++ masked m left (drop k x)
+run-kept m zero k x f = masked-run m k x (λ j h. f j h .1)
+run-kept m (suc left) zero x f = refl
+run-kept m (suc left) (suc k) x f = absurd (omega (arith, f 0 (omega arith) .0))
+
+module _ {m : Mask} {s : List ℕ} {n : ℕ} {buf : List ℕ} {i to left b f q : ℕ} (w : Masking m s n buf i to left b f q) (o : (x : List ℕ) → NoMask x → region m x ≡ 0) (le : n ≤ length s) {p : ℕ}
+    (e : ((i ≤ p) × (p ≤ length (take n buf))) × ((j : ℕ) → i ≤ j → j < p → (left ≡ 0) × NoMask (drop j (take n buf)))) where
+  steps : (j : ℕ) → j < p - i → (left ≡ 0) × (region m (drop j (drop i (take n s))) ≡ 0)
+  steps j h =
+      let r = e .1 (i + j) (omega arith) (omega arith) in
+      (r .0, ap (region m) (drop-drop j i (take n s) ∙ unread i (i + j) n s buf (sym (w .rest)) (omega arith)) ∙ o (drop (i + j) (take n buf)) (r .1))
 
   pub run-inside : (i ≤ p) × (p ≤ n)
-  run-inside =
-      let k : length (take n s) ≡ n = length-take-le n s le in
-      let d = length-drop i (take n s) in
-      (omega (arith, e), by (ltb 0 left) (first-within (is "[") (drop i (take n s))) steps)
-    where
-      by : (t : Bool) → toFirst (is "[") (drop i (take n s)) ≤ length (drop i (take n s)) → p - i ≡ cond t 0 (toFirst (is "[") (drop i (take n s))) → p ≤ n
-      by true h r = omega (arith, r, w .inside)
-      by false h r = let k : length (take n s) ≡ n = length-take-le n s le in let d = length-drop i (take n s) in omega (arith, h, r, k, d, w .inside)
+  run-inside = let k = size-now w le in (e .0 .0, omega (arith, e .0 .1))
 
   pub moved : {buf' : List ℕ} {to' : ℕ} → MovedDown buf i p to buf' to' → length buf' ≡ length buf → Masking m s n buf' p to' left b f q
   moved {buf'} {to'} v lb =
@@ -98,7 +91,7 @@ module _ {m : Mask} {s : List ℕ} {n : ℕ} {buf : List ℕ} {i to left b f q :
       let k : length (take n s) ≡ n = length-take-le n s le in
       let t : take (p - i) (drop i buf) ≡ take (p - i) (drop i (take n s)) = ap (take (p - i)) (w .rest) ∙ sym (part-before i (p - i) n s (omega (arith, r))) in
       let c : masked m left (drop i (take n s)) ≡ take (p - i) (drop i (take n s)) ++ masked m left (drop p (take n s)) =
-      run-kept m left (p - i) (drop i (take n s)) o steps
+      run-kept m left (p - i) (drop i (take n s)) steps
       ∙ ap (λ (y : List ℕ). take (p - i) (drop i (take n s)) ++ masked m left y) (drop-drop (p - i) i (take n s) ∙ ap (λ (j : ℕ). drop j (take n s)) x) in
       record {
         same = lb ∙ w .same;
@@ -111,6 +104,3 @@ module _ {m : Mask} {s : List ℕ} {n : ℕ} {buf : List ℕ} {i to left b f q :
         bracket = bracket-past (take n s) i p (r .0) (omega (arith, r, k)) (w .bracket);
         closer = record { at = λ j h g l. w .closer .at j (omega (arith, r)) g l };
       }
-
-pub size-now : {m : Mask} {s : List ℕ} {n : ℕ} {buf : List ℕ} {i to left b f q : ℕ} → Masking m s n buf i to left b f q → n ≤ length s → length (take n buf) ≡ n
-size-now {m} {s} {n} {buf} w le = length-take-le n buf (omega (arith, w .same))

@@ -1,22 +1,22 @@
--- Laws of bytes that no tag begins with: runs without `[`, and other second bytes. Assumes nothing.
+-- Laws of bytes that no tag begins with: runs without `[`, and other bytes behind it. Assumes nothing.
 use mathlib.Core.Path.{_≡_, refl, sym, ap, _∙_}
 use Prim.Native.Nat.{ℕ, zero, suc, _+_, _-_, _≤_, _<_}
-use native.Mathlib.Nat.{le-of-suc-le-suc, not-suc-le-zero}
+use native.Mathlib.Nat.{add-zero, le-of-suc-le-suc, not-suc-le-zero}
 use native.Mathlib.Omega.{arith}
-use mathlib.Core.Bool.{Bool, true, false, cond, _&&_, _||_}
+use mathlib.Core.Bool.{Bool, true, false, cond, _&&_, _||_, true≢false}
 use mathlib.Core.List.{List, [], _∷_}
 use lib.ListN.{length, drop, getD}
 use lib.Seq.{getD-drop}
 use lib.Dec.{eqb}
 use borrow.Author.Tests.{ne-eqb, eqb-false}
-use Rattle.text.specs.Ascii.{is, inside, small, begins, toFirst, toBracket}
+use Rattle.text.specs.Ascii.{ascii, is, inside, small, begins, toFirst, toBracket}
 use Rattle.text.proofs.Bytes.{inside-true, look, look-past}
 use Rattle.quote_tags.specs.Tags.{NextBracket, beginsAny, tagSize, openers, closers, openerSize, closerSize}
 use Rattle.quote_tags.proofs.Tagging.{tag-not}
 
 -- ---- another first byte
 
-small-open : (b : ℕ) → (b ≡ 91 → ⊥) → small b ≡ 91 → ⊥
+pub small-open : (b : ℕ) → (b ≡ 91 → ⊥) → small b ≡ 91 → ⊥
 unfolding small
 small-open b n e = by (inside 65 90 b) refl e
   where
@@ -69,29 +69,58 @@ bracket-past s i q {b} h le nb g =
     let l = look-past (is "]") s i i (q - i) (look (is "]") s i (omega arith)) (omega arith) (omega arith) in
     e ∙ sym (rw x at (l .ends))
 
--- ---- another second byte
+-- ---- another byte
 
-second-other : (a c : ℕ) (w x : List ℕ) → (small (getD x 1 0) ≡ c → ⊥) → begins (a ∷ c ∷ w) x ≡ false
+pub byte-other : (k : ℕ) (w x : List ℕ) → k < length w → (small (getD x k 0) ≡ getD w k 0 → ⊥) → begins w x ≡ false
 unfolding begins
-second-other a c w [] n = refl
-second-other a c w (b ∷ []) n = and-false (eqb (small b) a)
+byte-other k [] x h n = absurd (not-suc-le-zero h)
+byte-other k (a ∷ w) [] h n = refl
+byte-other zero (a ∷ w) (b ∷ x) h n = rw (ne-eqb (small b) a n)
+byte-other (suc k) (a ∷ w) (b ∷ x) h n = rw (byte-other k w x (le-of-suc-le-suc h) n) (and-false (eqb (small b) a))
   where
     and-false : (t : Bool) → (t && false) ≡ false
     and-false true = refl
     and-false false = refl
-second-other a c w (b ∷ d ∷ x) n = rw (ne-eqb (small d) c n) (and-false (eqb (small b) a))
+
+pub neither : (t u : Bool) → (t || u) ≡ false → (t ≡ false) × (u ≡ false)
+neither true u q = absurd (true≢false q)
+neither false u q = (refl, q)
+
+-- neither a capital letter nor its small one
+pub letter-other : (b c : ℕ) → (eqb b (c + 32) || eqb b c) ≡ false → small b ≡ c + 32 → ⊥
+unfolding small
+letter-other b c h e = by (inside 65 90 b) e (neither (eqb b (c + 32)) (eqb b c) h)
   where
-    and-false : (t : Bool) → (t && false) ≡ false
-    and-false true = refl
-    and-false false = refl
+    by : (t : Bool) → cond t (b + 32) b ≡ c + 32 → (eqb b (c + 32) ≡ false) × (eqb b c ≡ false) → ⊥
+    by true q p = eqb-false b c (p .1) (omega (arith, q))
+    by false q p = eqb-false b (c + 32) (p .0) q
+
+openers-other : (x : List ℕ) → begins (ascii "[quote]") x ≡ false → begins (ascii "[quote=") x ≡ false → begins (ascii "[quote ") x ≡ false → beginsAny openers x ≡ false
+unfolding beginsAny
+openers-other x p q r = none _ _ _ p q r
+  where
+    none : (a b c : Bool) → a ≡ false → b ≡ false → c ≡ false → (a || (b || (c || false))) ≡ false
+    none a b c p q r = rw (p, q, r)
+
+-- the bytes that a function compared
+pub not-quote : (x : List ℕ) {a b : ℕ} → (eqb a 91 && (eqb b 113 || eqb b 81)) ≡ false → getD x 0 0 ≡ a → getD x 1 0 ≡ b → openerSize x ≡ 0
+unfolding openerSize
+not-quote x {a} {b} h ea eb = sym (tag-not openers x (by (eqb a 91) refl h))
+  where
+    by : (t : Bool) → eqb a 91 ≡ t → (t && (eqb b 113 || eqb b 81)) ≡ false → beginsAny openers x ≡ false
+    by false p q = let f = small-open a (eqb-false a 91 p) in let g : small (getD x 0 0) ≡ 91 → ⊥ = λ z. f (ap small (sym ea) ∙ z) in openers-other x (byte-other 0 _ x (omega arith) g) (byte-other 0 _ x (omega arith) g) (byte-other 0 _ x (omega arith) g)
+    by true p q = let g : small (getD x 1 0) ≡ 113 → ⊥ = λ z. letter-other b 81 q (ap small (sym eb) ∙ z) in openers-other x (byte-other 1 _ x (omega arith) g) (byte-other 1 _ x (omega arith) g) (byte-other 1 _ x (omega arith) g)
 
 module _ (s : List ℕ) (i : ℕ) {y t : ℕ} (ey : y ≡ getD s (i + 1) 0) (et : t ≡ small y) where
   pub second-not : (a c : ℕ) (w : List ℕ) → (t ≡ c → ⊥) → begins (a ∷ c ∷ w) (drop i s) ≡ false
-  second-not a c w n = second-other a c w (drop i s) (λ q. n (et ∙ ap small (ey ∙ sym (getD-drop i s 1 0)) ∙ q))
+  second-not a c w n = byte-other 1 (a ∷ c ∷ w) (drop i s) (omega arith) (λ q. n (et ∙ ap small (ey ∙ sym (getD-drop i s 1 0)) ∙ q))
 
   pub openers-not : (t ≡ 113 → ⊥) → false ≡ beginsAny openers (drop i s)
-  unfolding beginsAny
-  openers-not n = sym (none _ _ _ (second-not _ _ _ n) (second-not _ _ _ n) (second-not _ _ _ n))
-    where
-      none : (a b c : Bool) → a ≡ false → b ≡ false → c ≡ false → (a || (b || (c || false))) ≡ false
-      none a b c p q r = rw (p, q, r)
+  openers-not n = sym (openers-other (drop i s) (second-not _ _ _ n) (second-not _ _ _ n) (second-not _ _ _ n))
+
+pub first-here : (s : List ℕ) (i : ℕ) → getD (drop i s) 0 0 ≡ getD s i 0
+first-here s i = rw (getD-drop i s 0 0, add-zero)
+
+pub not-quote-at : (s : List ℕ) (i : ℕ) {r : Bool} {a b : ℕ} → (r ≡ false → (x : List ℕ) → getD x 0 0 ≡ a → getD x 1 0 ≡ b → openerSize x ≡ 0)
+    → a ≡ getD s i 0 → b ≡ getD s (i + 1) 0 → r ≡ false → openerSize (drop i s) ≡ 0
+not-quote-at s i f ea eb q = f q (drop i s) (first-here s i ∙ sym ea) (getD-drop i s 1 0 ∙ sym eb)

@@ -1,21 +1,21 @@
 -- Laws of masks that find nothing to mask. Assumes nothing.
 use mathlib.Core.Path.{_≡_, refl, sym, ap, _∙_}
-use Prim.Native.Nat.{ℕ, zero, suc, _+_, _-_, _≤_, _<_}
-use native.Mathlib.Nat.{not-suc-le-zero, zero-sub}
+use Prim.Native.Nat.{ℕ, zero, suc, _+_, _-_, _<_}
+use native.Mathlib.Nat.{zero-sub}
 use native.Mathlib.Omega.{arith}
-use native.Mathlib.Numerals.{add-one}
-use mathlib.Core.Bool.{Bool, true, false, cond, _&&_, _||_, true≢false}
-use mathlib.Core.List.{List, [], _∷_, _++_}
-use lib.ListN.{length, take, drop, getD, drop-of-length-le, take-append-drop, length-drop}
-use lib.Seq.{drop-cons, drop-drop}
+use mathlib.Core.Bool.{Bool, true, false, not, _&&_, _||_, true≢false}
+use mathlib.Core.List.{List, [], _∷_, _++_, append-nil}
+use lib.ListN.{length, take, drop, getD}
+use lib.Seq.{take-length, drop-length, getD-drop}
 use lib.Dec.{eqb}
-use Rattle.text.specs.Ascii.{ascii, is, small, begins, toFirst}
-use Rattle.text.proofs.Bytes.{first-within}
+use borrow.Author.Tests.{eqb-true, eqb-false, not-false}
+use Rattle.text.specs.Ascii.{ascii, inside, small, begins}
 use Rattle.quote_tags.specs.Tags.{beginsAny}
 use Rattle.quote_tags.specs.Masks.{Mask, region, shown, masked, code, icode, noparse, visible, NoMask}
 use Rattle.quote_tags.proofs.Tagging.{tag-not}
 use Rattle.quote_tags.proofs.Masking.{region-none}
-use Rattle.quote_tags.proofs.Plain.{Bracketed, size-plain, run-first, second-not}
+use Rattle.quote_tags.proofs.Places.{Between}
+use Rattle.quote_tags.proofs.Plain.{small-open, byte-other, neither, letter-other, first-here}
 
 -- ---- a mask where none begins
 
@@ -23,70 +23,23 @@ masked-byte : (m : Mask) (b : ℕ) (x : List ℕ) → region m (b ∷ x) ≡ 0 �
 unfolding masked shown
 masked-byte m b x e = rw (e, zero-sub)
 
-pub masked-run : (m : Mask) (n : ℕ) (x : List ℕ) → Bracketed (m .opens) → n ≤ toFirst (is "[") x → masked m 0 x ≡ take n x ++ masked m 0 (drop n x)
-masked-run m zero x o h = refl
-masked-run m (suc n) [] o h = refl
-masked-run m (suc n) (b ∷ x) o h =
-    let f = run-first n b x h in
-    masked-byte m b x (sym (region-none m (b ∷ x) (size-plain b x (f .0) (m .opens) o))) ∙ ap (λ (r : List ℕ). b ∷ r) (masked-run m n x o (f .1))
+pub masked-run : (m : Mask) (n : ℕ) (x : List ℕ) → ((j : ℕ) → j < n → region m (drop j x) ≡ 0) → masked m 0 x ≡ take n x ++ masked m 0 (drop n x)
+masked-run m zero x f = refl
+masked-run m (suc n) [] f = refl
+masked-run m (suc n) (b ∷ x) f = masked-byte m b x (f 0 (omega arith)) ∙ ap (λ (r : List ℕ). b ∷ r) (masked-run m n x (λ j h. f (suc j) (omega arith)))
 
--- ---- a text with no mask: what is left of it decides
+-- ---- a text with no mask
 
-pub record Passed (m : Mask) (s : List ℕ) (i : ℕ) : Type 0 where
-  pub same : masked m 0 (drop i s) ≡ drop i s → masked m 0 s ≡ s
+masked-none : (m : Mask) (s : List ℕ) → ((j : ℕ) → j < length s → region m (drop j s) ≡ 0) → masked m 0 s ≡ s
+unfolding masked
+masked-none m s f = masked-run m (length s) s f ∙ rw (take-length, drop-length, append-nil)
 
-module _ (m : Mask) (s : List ℕ) (i : ℕ) (w : Passed m s i) where
-  passed-byte : i < length s → region m (drop i s) ≡ 0 → Passed m s (i + 1)
-  passed-byte lt e =
-      let d : drop i s ≡ getD s i 0 ∷ drop (i + 1) s = rw add-one (drop-cons s i 0 lt) in
-      record { same = λ h. w .same (rw d (masked-byte m (getD s i 0) (drop (i + 1) s) (ap (region m) (sym d) ∙ e) ∙ ap (λ (r : List ℕ). getD s i 0 ∷ r) h)) }
-
-  passed-run : (n : ℕ) → Bracketed (m .opens) → n ≤ toFirst (is "[") (drop i s) → Passed m s (i + n)
-  passed-run n o h =
-      let d : drop n (drop i s) ≡ drop (i + n) s = drop-drop n i s in
-      record { same = λ q. w .same (masked-run m n (drop i s) o h ∙ ap (λ (r : List ℕ). take n (drop i s) ++ r) (ap (masked m 0) d ∙ q ∙ sym d) ∙ take-append-drop n (drop i s)) }
-
-  passed-end : length s ≤ i → masked m 0 s ≡ s
-  unfolding masked
-  passed-end le = w .same (rw (drop-of-length-le s {i = i} le))
-
--- no mask begins before place i
-pub record Unmasked (s : List ℕ) (i : ℕ) : Type 0 where
-  pub inside : i ≤ length s
-  pub by-code : Passed code s i
-  pub by-icode : Passed icode s i
-  pub by-noparse : Passed noparse s i
-
-pub unmasked : (s : List ℕ) → Unmasked s 0
-unmasked s = record { inside = omega arith; by-code = record { same = λ h. h }; by-icode = record { same = λ h. h }; by-noparse = record { same = λ h. h } }
-
-module _ {s : List ℕ} {i : ℕ} (w : Unmasked s i) where
-  pub unmasked-byte : i < length s → NoMask (drop i s) → Unmasked s (i + 1)
-  unmasked-byte lt (a, b, c) = record {
-    inside = omega arith;
-    by-code = passed-byte code s i (w .by-code) lt a;
-    by-icode = passed-byte icode s i (w .by-icode) lt b;
-    by-noparse = passed-byte noparse s i (w .by-noparse) lt c;
-  }
-
-  pub unmasked-run : {q : ℕ} → q ≡ i + toFirst (is "[") (drop i s) → Unmasked s q
-  unfolding code icode noparse
-  unmasked-run {q} e =
-      let f = first-within (is "[") (drop i s) in
-      let l = length-drop i s in
-      rw e (record {
-        inside = omega (arith, f, l, w .inside);
-        by-code = passed-run code s i (w .by-code) _ (refl, (refl, tt)) (omega arith);
-        by-icode = passed-run icode s i (w .by-icode) _ (refl, (refl, tt)) (omega arith);
-        by-noparse = passed-run noparse s i (w .by-noparse) _ (refl, tt) (omega arith);
-      })
-
-  pub unmasked-end : length s ≤ i → visible s ≡ s
-  unfolding visible
-  unmasked-end le =
-      ap (λ (x : List ℕ). masked noparse 0 (masked icode 0 x)) (passed-end code s i (w .by-code) le)
-      ∙ ap (masked noparse 0) (passed-end icode s i (w .by-icode) le)
-      ∙ passed-end noparse s i (w .by-noparse) le
+pub visible-same : (s : List ℕ) → Between (λ j. NoMask (drop j s)) 0 (length s) → visible s ≡ s
+unfolding visible
+visible-same s f =
+    ap (λ (x : List ℕ). masked noparse 0 (masked icode 0 x)) (masked-none code s (λ j h. f j (omega arith) h .0))
+    ∙ ap (masked noparse 0) (masked-none icode s (λ j h. f j (omega arith) h .1))
+    ∙ masked-none noparse s (λ j h. f j (omega arith) h .2)
 
 -- ---- the words that open a mask
 
@@ -113,3 +66,43 @@ no-mask x a b c d = (
 
     one : (s : Bool) → s ≡ false → (s || false) ≡ false
     one s p = rw p
+
+-- ---- the bytes that a word begins with
+
+small-bracket : small 93 ≡ 93
+unfolding small inside
+small-bracket = refl
+
+module _ (x : List ℕ) where
+  pub no-tag : (getD x 0 0 ≡ 91 → ⊥) → NoMask x
+  no-tag n =
+      let f = small-open (getD x 0 0) n in
+      no-mask x (byte-other 0 _ x (omega arith) f) (byte-other 0 _ x (omega arith) f) (byte-other 0 _ x (omega arith) f) (byte-other 0 _ x (omega arith) f)
+
+  -- the bytes that a function compared
+  pub not-open : {a b c : ℕ} → (eqb a 91 && (((eqb b 99 || eqb b 67) || (eqb b 110 || eqb b 78)) || ((eqb b 105 || eqb b 73) && not (eqb c 93)))) ≡ false
+      → getD x 0 0 ≡ a → getD x 1 0 ≡ b → getD x 2 0 ≡ c → NoMask x
+  not-open {a} {b} {c} h ea eb ec = by (eqb a 91) refl h
+    where
+      other : (l : ℕ) → (eqb b (l + 32) || eqb b l) ≡ false → small (getD x 1 0) ≡ l + 32 → ⊥
+      other l p z = letter-other b l p (ap small (sym eb) ∙ z)
+
+      by-i : (t : Bool) → (eqb b 105 || eqb b 73) ≡ t → (t && not (eqb c 93)) ≡ false → begins (ascii "[icode]") x ≡ false
+      by-i false p q = byte-other 1 (ascii "[icode]") x (omega arith) (other 73 p)
+      by-i true p q = byte-other 2 (ascii "[icode]") x (omega arith) (λ z. let e : 93 ≡ 99 = sym small-bracket ∙ ap small (sym (ec ∙ eqb-true c 93 (not-false _ q))) ∙ z in omega (arith, e))
+
+      by : (t : Bool) → eqb a 91 ≡ t → (t && (((eqb b 99 || eqb b 67) || (eqb b 110 || eqb b 78)) || ((eqb b 105 || eqb b 73) && not (eqb c 93)))) ≡ false → NoMask x
+      by false p q = no-tag (λ z. eqb-false a 91 p (sym ea ∙ z))
+      by true p q =
+          let r = neither ((eqb b 99 || eqb b 67) || (eqb b 110 || eqb b 78)) ((eqb b 105 || eqb b 73) && not (eqb c 93)) q in
+          let s = neither (eqb b 99 || eqb b 67) (eqb b 110 || eqb b 78) (r .0) in
+          no-mask x (byte-other 1 _ x (omega arith) (other 67 (s .0))) (byte-other 1 _ x (omega arith) (other 67 (s .0))) (by-i (eqb b 105 || eqb b 73) refl (r .1)) (byte-other 1 _ x (omega arith) (other 78 (s .1)))
+
+-- the same by place
+module _ (s : List ℕ) (i : ℕ) where
+  pub no-tag-at : eqb (getD s i 0) 91 ≡ false → NoMask (drop i s)
+  no-tag-at q = no-tag (drop i s) (λ z. eqb-false (getD s i 0) 91 q (sym (first-here s i) ∙ z))
+
+  pub not-open-at : {r : Bool} {a b c : ℕ} → (r ≡ false → (x : List ℕ) → getD x 0 0 ≡ a → getD x 1 0 ≡ b → getD x 2 0 ≡ c → NoMask x)
+      → a ≡ getD s i 0 → b ≡ getD s (i + 1) 0 → c ≡ getD s (i + 2) 0 → r ≡ false → NoMask (drop i s)
+  not-open-at f ea eb ec q = f q (drop i s) (first-here s i ∙ sym ea) (getD-drop i s 1 0 ∙ sym eb) (getD-drop i s 2 0 ∙ sym ec)

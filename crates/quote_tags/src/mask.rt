@@ -7,15 +7,14 @@ use text::scan::begins_at;
 use text::scan::byte_at;
 use text::scan::is_inside;
 use text::scan::next_bracket;
-use text::scan::next_byte;
 use text::scan::small_of;
 ghost use mathlib.Core.Path.{_≡_};
 ghost use mathlib.Core.Bool.{cond, false};
-ghost use mathlib.Core.List.{[], _∷_};
-ghost use Prim.Native.Nat.{_+_, _-_, _≤_, _<_};
+ghost use mathlib.Core.List.{List, [], _∷_};
+ghost use Prim.Native.Nat.{ℕ, _+_, _-_, _≤_, _<_};
 ghost use lib.ListN.{length, take, drop, getD};
 ghost use lib.Dec.{ltb};
-ghost use Rattle.text.specs.Ascii.{is, toFirst, toBracket};
+ghost use Rattle.text.specs.Ascii.{toBracket};
 ghost use Rattle.quote_tags.specs.Tags.{NextBracket, beginsAny, tagSize};
 ghost use Rattle.quote_tags.specs.Masks.{toCloser, region, shown, Masked, MovedDown, KnownCloser, visible, NoMask};
 
@@ -179,15 +178,87 @@ fn byte_for(left: usize, b: u8) -> usize
     b as usize
 }
 
-// The end of a run that no region begins in: the next `[`, and within a region the place itself.
+// Whether a word that opens a mask may begin with these bytes: `[c`, `[n`, or `[i` and no `]`. (Of 16 places at once a machine tells `]` from
+// other bytes with less work than the c of `[icode]`.)
+fn may_open(a: u8, b: u8, c: u8) -> bool
+    ensures { λ r. ⌜ (r ≡ false → (x : List ℕ) → getD x 0 0 ≡ a → getD x 1 0 ≡ b → getD x 2 0 ≡ c → NoMask x) ⌝ }
+{
+    let by_c = (b == b'c') | (b == b'C');
+    let by_n = (b == b'n') | (b == b'N');
+    let by_i = ((b == b'i') | (b == b'I')) & (c != b']');
+    (a == b'[') & (by_c | by_n | by_i)
+}
+
+// Whether a `[` stands among the 16 bytes from i on: one comparison of all 16 where the machine has it.
+fn tag_in_16(s: &[u8], i: usize) -> bool
+    requires { ⌜ i + 16 ≤ length (now s) ⌝ }
+    ensures { λ r. ⌜ (r ≡ false → (j : ℕ) → i ≤ j → j < i + 16 → NoMask (drop j (now (s .entry)))) ⌝ }
+{
+    let mut stands = false;
+    let mut k: usize = 0;
+    while k < 16 {
+        stands = stands | (s[i + k] == b'[');
+        k += 1;
+    }
+    stands
+}
+
+// Whether a word that opens a mask may begin among the 16 bytes from i on, likewise.
+fn mask_in_16(s: &[u8], i: usize) -> bool
+    requires { ⌜ i + 18 ≤ length (now s) ⌝ }
+    ensures { λ r. ⌜ (r ≡ false → (j : ℕ) → i ≤ j → j < i + 16 → NoMask (drop j (now (s .entry)))) ⌝ }
+{
+    if !tag_in_16(s, i) {
+        return false;
+    }
+    let mut stands = false;
+    let mut k: usize = 0;
+    while k < 16 {
+        stands = stands | may_open(s[i + k], s[i + k + 1], s[i + k + 2]);
+        k += 1;
+    }
+    stands
+}
+
+// The place from which on to look for a mask one by one: none begins between.
+fn past_16s(s: &[u8], at: usize) -> usize
+    requires { ⌜ at ≤ length (now s) ⌝ }
+    ensures { λ r. ⌜ ((at ≤ r) × (r ≤ length (now (s .entry)))) × ((j : ℕ) → at ≤ j → j < r → NoMask (drop j (now (s .entry)))) ⌝ }
+{
+    let mut i = at;
+    while 18 <= s.len() - i {
+        if mask_in_16(s, i) {
+            return i;
+        }
+        i += 16;
+    }
+    i
+}
+
+// The first place from a place on where a mask may begin, or the end.
+fn next_mask(s: &[u8], at: PostAt) -> PostAt
+    requires { ⌜ at .0 ≤ length (now s) ⌝ }
+    ensures { λ r. ⌜ ((at .0 ≤ r .0) × (r .0 ≤ length (now (s .entry)))) × ((j : ℕ) → at .0 ≤ j → j < r .0 → NoMask (drop j (now (s .entry)))) ⌝ }
+{
+    let mut i = past_16s(s, at.0);
+    while i < s.len() {
+        if may_open(s[i], byte_at(s, i + 1), byte_at(s, i + 2)) {
+            return PostAt(i);
+        }
+        i += 1;
+    }
+    PostAt(i)
+}
+
+// The end of a run that no region begins in: the next place where one may, and within a region the place itself.
 fn run_end(s: &[u8], at: PostAt, left: usize) -> PostAt
     requires { ⌜ at .0 ≤ length (now s) ⌝ }
-    ensures { λ r. ⌜ r .0 ≡ at .0 + cond (ltb 0 left) 0 (toFirst (is "[") (drop (at .0) (now (s .entry)))) ⌝ }
+    ensures { λ r. ⌜ ((at .0 ≤ r .0) × (r .0 ≤ length (now (s .entry)))) × ((j : ℕ) → at .0 ≤ j → j < r .0 → (left ≡ 0) × NoMask (drop j (now (s .entry)))) ⌝ }
 {
     if 0 < left {
         return at;
     }
-    next_byte(s, at, b'[')
+    next_mask(s, at)
 }
 
 // Moves the bytes from a up to e down to a place before them, and returns the place behind them.
@@ -217,7 +288,7 @@ fn one_less(left: usize) -> usize
     left - 1
 }
 
-// Masks the first n bytes: openers and closers are one of two words each, openers with `[`. Returns how many bytes are left.
+// Masks the first n bytes by one of the three masks: openers and closers are one of two words each. Returns how many bytes are left.
 fn mask(
     buf: &mut [u8],
     n: usize,
@@ -226,7 +297,7 @@ fn mask(
     first: &[u8],
     second: &[u8],
 ) -> usize
-    requires { ⌜ (n ≤ length (now buf)) × ((getD (now opener) 0 0 ≡ 91) × (getD (now opener2) 0 0 ≡ 91)) ⌝ }
+    requires { ⌜ (n ≤ length (now buf)) × ((x : List ℕ) → NoMask x → region (record { opens = now opener ∷ now opener2 ∷ []; closes = now first ∷ now second ∷ [] }) x ≡ 0) ⌝ }
     ensures { λ r. ⌜ Masked (record { opens = now (opener .entry) ∷ now (opener2 .entry) ∷ []; closes = now (first .entry) ∷ now (second .entry) ∷ [] }) n (now (buf .entry)) r (now (buf .exit)) ⌝ }
 {
     let mut i: usize = 0;
@@ -314,7 +385,7 @@ fn has_mask(s: &[u8]) -> bool
 {
     let mut i: usize = 0;
     while i < s.len() {
-        let next = next_byte(s, PostAt(i), b'[');
+        let next = next_mask(s, PostAt(i));
         i = next.0;
         if s.len() <= i {
             return false;

@@ -5,8 +5,10 @@ use text::scan::byte_at;
 use text::scan::next_bracket;
 use text::scan::small_of;
 ghost use mathlib.Core.Path.{_≡_};
-ghost use Prim.Native.Nat.{_+_, _≤_, _<_};
-ghost use lib.ListN.{length, drop};
+ghost use mathlib.Core.Bool.{false};
+ghost use mathlib.Core.List.{List};
+ghost use Prim.Native.Nat.{ℕ, _+_, _≤_, _<_};
+ghost use lib.ListN.{length, drop, getD};
 ghost use Rattle.text.specs.Ascii.{toBracket};
 ghost use Rattle.quote_tags.specs.Tags.{NextBracket, upToBracket, beginsAny, openers, openerSize, closerSize};
 
@@ -53,6 +55,57 @@ pub fn opens_quote(s: &[u8], at: PostAt) -> bool
         return true;
     }
     begins_at(s, at, b"[quote ")
+}
+
+// Whether a quote opener may begin with these bytes.
+fn may_open(a: u8, b: u8) -> bool
+    ensures { λ r. ⌜ (r ≡ false → (x : List ℕ) → getD x 0 0 ≡ a → getD x 1 0 ≡ b → openerSize x ≡ 0) ⌝ }
+{
+    (a == b'[') & ((b == b'q') | (b == b'Q'))
+}
+
+// Whether a quote opener may begin among the 16 bytes from i on: one comparison of all 16 where the machine has it.
+fn quote_in_16(s: &[u8], i: usize) -> bool
+    requires { ⌜ i + 17 ≤ length (now s) ⌝ }
+    ensures { λ r. ⌜ (r ≡ false → (j : ℕ) → i ≤ j → j < i + 16 → openerSize (drop j (now (s .entry))) ≡ 0) ⌝ }
+{
+    let mut stands = false;
+    let mut k: usize = 0;
+    while k < 16 {
+        stands = stands | may_open(s[i + k], s[i + k + 1]);
+        k += 1;
+    }
+    stands
+}
+
+// The place from which on to look for a quote opener one by one: none begins between.
+fn past_16s(s: &[u8], at: usize) -> usize
+    requires { ⌜ at ≤ length (now s) ⌝ }
+    ensures { λ r. ⌜ ((at ≤ r) × (r ≤ length (now (s .entry)))) × ((j : ℕ) → at ≤ j → j < r → openerSize (drop j (now (s .entry))) ≡ 0) ⌝ }
+{
+    let mut i = at;
+    while 17 <= s.len() - i {
+        if quote_in_16(s, i) {
+            return i;
+        }
+        i += 16;
+    }
+    i
+}
+
+// The first place from a place on where a quote opener may begin, or the end.
+pub fn next_quote(s: &[u8], at: PostAt) -> PostAt
+    requires { ⌜ at .0 ≤ length (now s) ⌝ }
+    ensures { λ r. ⌜ ((at .0 ≤ r .0) × (r .0 ≤ length (now (s .entry)))) × ((j : ℕ) → at .0 ≤ j → j < r .0 → openerSize (drop j (now (s .entry))) ≡ 0) ⌝ }
+{
+    let mut i = past_16s(s, at.0);
+    while i < s.len() {
+        if may_open(s[i], byte_at(s, i + 1)) {
+            return PostAt(i);
+        }
+        i += 1;
+    }
+    PostAt(i)
 }
 
 // How many bytes the quote opener at a place has, 0 where none is there.

@@ -49,25 +49,25 @@ run-end-requires : tie.Need-run-end-requires Inv-loop μ-loop
 run-end-requires c κs = let k = size-now (c .before .before .loop .inv) (c .before .before .before .before .before .before .before .before .before .before .pre .0) in omega (arith, k, c .before .loop-test .taken)
 
 move-down-requires : tie.Need-move-down-requires Inv-loop μ-loop
-move-down-requires c κs = let l = c .before .before .before .before .loop in let p = c .before .before .before .before .before .before .before .before .before .before .before .before .pre in let r = run-inside (l .inv) (p .1 .0, (p .1 .1, tt)) (p .0) (c .before .run-end .ensures) in (l .inv .order, (r .0, omega (arith, r .1, l .inv .same, p .0)))
+move-down-requires c κs = let l = c .before .before .before .before .loop in let p = c .before .before .before .before .before .before .before .before .before .before .before .before .pre in let r = run-inside (l .inv) (p .1) (p .0) (c .before .run-end .ensures) in (l .inv .order, (r .0, omega (arith, r .1, l .inv .same, p .0)))
 
 same-length : tie.Need-same-length Inv-loop μ-loop
 same-length c = c .before .before .before .move-down .kept .0 ∙ c .before .before .before .before .before .before .before .before .loop .inv .same
 
 returns : tie.Need-returns Inv-loop μ-loop
-returns c = let p = c .before .before .before .before .before .before .before .before .before .before .before .before .before .before .before .before .pre in let d = c .before .before .before .move-down in let w = moved (c .before .before .before .before .before .before .before .before .loop .inv) (p .1 .0, (p .1 .1, tt)) (p .0) (c .before .before .before .before .before .run-end .ensures) (d .ensures) (d .kept .0) in finished w (c .if1 .taken) (p .0)
+returns c = let p = c .before .before .before .before .before .before .before .before .before .before .before .before .before .before .before .before .pre in let d = c .before .before .before .move-down in let w = moved (c .before .before .before .before .before .before .before .before .loop .inv) (p .1) (p .0) (c .before .before .before .before .before .run-end .ensures) (d .ensures) (d .kept .0) in finished w (c .if1 .taken) (p .0)
 
 slice-reshare-prefix-region-left : tie.Need-slice-reshare-prefix-region-left Inv-loop μ-loop
-slice-reshare-prefix-region-left c = let p = c .before .before .before .before .before .before .before .before .before .before .before .before .before .before .before .before .pre in let d = c .before .before .before .move-down in let w = moved (c .before .before .before .before .before .before .before .before .loop .inv) (p .1 .0, (p .1 .1, tt)) (p .0) (c .before .before .before .before .before .run-end .ensures) (d .ensures) (d .kept .0) in omega (arith, w .same, p .0)
+slice-reshare-prefix-region-left c = let p = c .before .before .before .before .before .before .before .before .before .before .before .before .before .before .before .before .pre in let d = c .before .before .before .move-down in let w = moved (c .before .before .before .before .before .before .before .before .loop .inv) (p .1) (p .0) (c .before .before .before .before .before .run-end .ensures) (d .ensures) (d .kept .0) in omega (arith, w .same, p .0)
 
 slice-aggregate-region-left : tie.Need-slice-aggregate-region-left Inv-loop μ-loop
-slice-aggregate-region-left c = let p = c .before .before .before .before .before .before .before .before .before .before .before .before .before .before .before .before .before .pre in let d = c .before .before .before .before .move-down in let w = moved (c .before .before .before .before .before .before .before .before .before .loop .inv) (p .1 .0, (p .1 .1, tt)) (p .0) (c .before .before .before .before .before .before .run-end .ensures) (d .ensures) (d .kept .0) in sym (size-now w (p .0))
+slice-aggregate-region-left c = let p = c .before .before .before .before .before .before .before .before .before .before .before .before .before .before .before .before .before .pre in let d = c .before .before .before .before .move-down in let w = moved (c .before .before .before .before .before .before .before .before .before .loop .inv) (p .1) (p .0) (c .before .before .before .before .before .before .run-end .ensures) (d .ensures) (d .kept .0) in sym (size-now w (p .0))
 
 region-left-requires : tie.Need-region-left-requires Inv-loop μ-loop
-region-left-requires c κs = let p = c .before .before .before .before .before .before .before .before .before .before .before .before .before .before .before .before .before .pre in let d = c .before .before .before .before .move-down in let w = moved (c .before .before .before .before .before .before .before .before .before .loop .inv) (p .1 .0, (p .1 .1, tt)) (p .0) (c .before .before .before .before .before .before .run-end .ensures) (d .ensures) (d .kept .0) in let k = size-now w (p .0) in (omega (arith, k, c .before .if1 .left), (bracket-now w, closer-now w))
+region-left-requires c κs = let p = c .before .before .before .before .before .before .before .before .before .before .before .before .before .before .before .before .before .pre in let d = c .before .before .before .before .move-down in let w = moved (c .before .before .before .before .before .before .before .before .before .loop .inv) (p .1) (p .0) (c .before .before .before .before .before .before .run-end .ensures) (d .ensures) (d .kept .0) in let k = size-now w (p .0) in (omega (arith, k, c .before .if1 .left), (bracket-now w, closer-now w))
 
 slice-read-byte-for : tie.Need-slice-read-byte-for Inv-loop μ-loop
-slice-read-byte-for c = let p = c .before .before .before .before .before .before .before .before .before .before .before .before .before .before .before .before .before .before .before .before .before .pre in let d = c .before .before .before .before .before .before .before .before .move-down in let w = moved (c .before .before .before .before .before .before .before .before .before .before .before .before .before .loop .inv) (p .1 .0, (p .1 .1, tt)) (p .0) (c .before .before .before .before .before .before .before .before .before .before .run-end .ensures) (d .ensures) (d .kept .0) in omega (arith, w .same, p .0, c .before .before .before .before .before .if1 .left)
+slice-read-byte-for c = let p = c .before .before .before .before .before .before .before .before .before .before .before .before .before .before .before .before .before .before .before .before .before .pre in let d = c .before .before .before .before .before .before .before .before .move-down in let w = moved (c .before .before .before .before .before .before .before .before .before .before .before .before .before .loop .inv) (p .1) (p .0) (c .before .before .before .before .before .before .before .before .before .before .run-end .ensures) (d .ensures) (d .kept .0) in omega (arith, w .same, p .0, c .before .before .before .before .before .if1 .left)
 
 byte-for-requires : tie.Need-byte-for-requires Inv-loop μ-loop
 byte-for-requires c κs = search needs
@@ -76,10 +76,10 @@ cast-buf : tie.Need-cast-buf Inv-loop μ-loop
 cast-buf c = search needs
 
 slice-write-buf : tie.Need-slice-write-buf Inv-loop μ-loop
-slice-write-buf c = let p = c .before .before .before .before .before .before .before .before .before .before .before .before .before .before .before .before .before .before .before .before .before .before .before .pre in let d = c .before .before .before .before .before .before .before .before .before .before .move-down in let w = moved (c .before .before .before .before .before .before .before .before .before .before .before .before .before .before .before .loop .inv) (p .1 .0, (p .1 .1, tt)) (p .0) (c .before .before .before .before .before .before .before .before .before .before .before .before .run-end .ensures) (d .ensures) (d .kept .0) in omega (arith, w .same, w .order, p .0, c .before .before .before .before .before .before .before .if1 .left)
+slice-write-buf c = let p = c .before .before .before .before .before .before .before .before .before .before .before .before .before .before .before .before .before .before .before .before .before .before .before .pre in let d = c .before .before .before .before .before .before .before .before .before .before .move-down in let w = moved (c .before .before .before .before .before .before .before .before .before .before .before .before .before .before .before .loop .inv) (p .1) (p .0) (c .before .before .before .before .before .before .before .before .before .before .before .before .run-end .ensures) (d .ensures) (d .kept .0) in omega (arith, w .same, w .order, p .0, c .before .before .before .before .before .before .before .if1 .left)
 
 add-to : tie.Need-add-to Inv-loop μ-loop
-add-to c = let p = c .before .before .before .before .before .before .before .before .before .before .before .before .before .before .before .before .before .before .before .before .before .before .before .pre in let d = c .before .before .before .before .before .before .before .before .before .before .move-down in let w = moved (c .before .before .before .before .before .before .before .before .before .before .before .before .before .before .before .loop .inv) (p .1 .0, (p .1 .1, tt)) (p .0) (c .before .before .before .before .before .before .before .before .before .before .before .before .run-end .ensures) (d .ensures) (d .kept .0) in omega (arith, w .order, c .before .before .before .before .before .before .before .if1 .left, p .0, c .before .before .before .before .before .before .before .before .before .before .before .before .before .before .before .before .before .before .before .before .before .before .before .good .0)
+add-to c = let p = c .before .before .before .before .before .before .before .before .before .before .before .before .before .before .before .before .before .before .before .before .before .before .before .pre in let d = c .before .before .before .before .before .before .before .before .before .before .move-down in let w = moved (c .before .before .before .before .before .before .before .before .before .before .before .before .before .before .before .loop .inv) (p .1) (p .0) (c .before .before .before .before .before .before .before .before .before .before .before .before .run-end .ensures) (d .ensures) (d .kept .0) in omega (arith, w .order, c .before .before .before .before .before .before .before .if1 .left, p .0, c .before .before .before .before .before .before .before .before .before .before .before .before .before .before .before .before .before .before .before .before .before .before .before .good .0)
 
 one-less-requires : tie.Need-one-less-requires Inv-loop μ-loop
 one-less-requires c κs = search needs
@@ -88,10 +88,10 @@ add-i : tie.Need-add-i Inv-loop μ-loop
 add-i c = omega (arith, c .before .before .before .before .before .before .before .before .if1 .left, c .before .before .before .before .before .before .before .before .before .before .before .before .before .before .before .before .before .before .before .before .before .before .before .before .pre .0, c .before .before .before .before .before .before .before .before .before .before .before .before .before .before .before .before .before .before .before .before .before .before .before .before .good .0)
 
 loop-less : tie.Need-loop-less Inv-loop μ-loop
-loop-less c = let p = c .before .before .before .before .before .before .before .before .before .before .before .before .before .before .before .before .before .before .before .before .before .before .before .before .pre in let r = run-inside (c .before .before .before .before .before .before .before .before .before .before .before .before .before .before .before .before .loop .inv) (p .1 .0, (p .1 .1, tt)) (p .0) (c .before .before .before .before .before .before .before .before .before .before .before .before .before .run-end .ensures) in omega (arith, r .0, c .before .before .before .before .before .before .before .before .if1 .left)
+loop-less c = let p = c .before .before .before .before .before .before .before .before .before .before .before .before .before .before .before .before .before .before .before .before .before .before .before .before .pre in let r = run-inside (c .before .before .before .before .before .before .before .before .before .before .before .before .before .before .before .before .loop .inv) (p .1) (p .0) (c .before .before .before .before .before .before .before .before .before .before .before .before .before .run-end .ensures) in omega (arith, r .0, c .before .before .before .before .before .before .before .before .if1 .left)
 
 loop-again : tie.Need-loop-again Inv-loop μ-loop
-loop-again c = let p = c .before .before .before .before .before .before .before .before .before .before .before .before .before .before .before .before .before .before .before .before .before .before .before .before .pre in let d = c .before .before .before .before .before .before .before .before .before .before .before .move-down in let w = moved (c .before .before .before .before .before .before .before .before .before .before .before .before .before .before .before .before .loop .inv) (p .1 .0, (p .1 .1, tt)) (p .0) (c .before .before .before .before .before .before .before .before .before .before .before .before .before .run-end .ensures) (d .ensures) (d .kept .0) in let R = c .before .before .before .before .before .before .region-left .ensures in let b = c .before .before .byte-for in rw (c .one-less .ensures) (⊎-elim (λ v. rw (v .1, v .2) (wrote w (c .before .before .before .before .before .before .before .before .if1 .left) (p .0) (b .result) (R .0) (R .1 .0) (R .1 .1) (b .ensures) (v .0 .taken))) (λ v. rw (v .1, v .2) (left-out w (c .before .before .before .before .before .before .before .before .if1 .left) (p .0) (b .result) (R .0) (R .1 .0) (R .1 .1) (b .ensures) (v .0 .left))) (c .before .if2 .came))
+loop-again c = let p = c .before .before .before .before .before .before .before .before .before .before .before .before .before .before .before .before .before .before .before .before .before .before .before .before .pre in let d = c .before .before .before .before .before .before .before .before .before .before .before .move-down in let w = moved (c .before .before .before .before .before .before .before .before .before .before .before .before .before .before .before .before .loop .inv) (p .1) (p .0) (c .before .before .before .before .before .before .before .before .before .before .before .before .before .run-end .ensures) (d .ensures) (d .kept .0) in let R = c .before .before .before .before .before .before .region-left .ensures in let b = c .before .before .byte-for in rw (c .one-less .ensures) (⊎-elim (λ v. rw (v .1, v .2) (wrote w (c .before .before .before .before .before .before .before .before .if1 .left) (p .0) (b .result) (R .0) (R .1 .0) (R .1 .1) (b .ensures) (v .0 .taken))) (λ v. rw (v .1, v .2) (left-out w (c .before .before .before .before .before .before .before .before .if1 .left) (p .0) (b .result) (R .0) (R .1 .0) (R .1 .1) (b .ensures) (v .0 .left))) (c .before .if2 .came))
 
 same-length-2 : tie.Need-same-length-2 Inv-loop μ-loop
 same-length-2 c = search needs

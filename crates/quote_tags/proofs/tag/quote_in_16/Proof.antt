@@ -1,0 +1,86 @@
+use borrow.Author.Needs.{needs}
+use native.Mathlib.Omega.{arith}
+use mathlib.Core.Path.{_≡_, refl, sym, ap, _∙_}
+use Prim.Native.Nat.{ℕ, suc, _+_, _-_, _≤_, _<_}
+use mathlib.Core.List.{List, [], _∷_, _++_}
+use lib.ListN.{length, getD, drop}
+use mathlib.Core.Bool.{false}
+use Rattle.quote_tags.specs.Tags.{openerSize}
+use Rattle.quote_tags.proofs.Places.{Between, between-turn}
+use Rattle.quote_tags.proofs.Plain.{not-quote-at}
+use Rattle.quote_tags.proofs.tag.quote_in_16.Statement.{statement}
+use Rattle.quote_tags.proofs.tag.quote_in_16.Tie as tie
+use Rattle.quote_tags.proofs.tag.quote_in_16.Reads as reads
+use Rattle.quote_tags.proofs.tag.quote_in_16.Lts as lts
+use Rattle.quote_tags.proofs.tag.may_open.Reads as may-open-reads
+
+abbrev Inv-loop : tie.InvT-loop
+Inv-loop s i stands₀ k₀ stands k = (k ≤ 16) × (stands ≡ false → Between (λ j. openerSize (drop j s) ≡ 0) i (i + k))
+
+abbrev μ-loop : tie.MeasureT-loop
+μ-loop s i stands₀ k₀ stands k = 16 - k
+
+-- src/tag.rt:74:5
+loop-holds : tie.Need-loop-holds Inv-loop μ-loop
+loop-holds c = (search needs, λ _ j h l. absurd (omega arith))
+
+-- src/tag.rt:75:38
+add-may-open : tie.Need-add-may-open Inv-loop μ-loop
+add-may-open c = search needs
+
+-- src/tag.rt:75:36
+shared-slice-read-may-open : tie.Need-shared-slice-read-may-open Inv-loop μ-loop
+shared-slice-read-may-open c = search needs
+
+-- src/tag.rt:75:48
+add-may-open-2 : tie.Need-add-may-open-2 Inv-loop μ-loop
+add-may-open-2 c = search needs
+
+-- src/tag.rt:75:48
+add-may-open-3 : tie.Need-add-may-open-3 Inv-loop μ-loop
+add-may-open-3 c = search needs
+
+-- src/tag.rt:75:46
+shared-slice-read-may-open-2 : tie.Need-shared-slice-read-may-open-2 Inv-loop μ-loop
+shared-slice-read-may-open-2 c = search needs
+
+-- src/tag.rt:75:27
+may-open-requires : tie.Need-may-open-requires Inv-loop μ-loop
+may-open-requires c κs = search needs
+
+-- src/tag.rt:76:9
+add-k : tie.Need-add-k Inv-loop μ-loop
+add-k c = search needs
+
+-- src/tag.rt:74:5
+loop-less : tie.Need-loop-less Inv-loop μ-loop
+loop-less c = search needs
+
+-- src/tag.rt:74:5
+loop-again : tie.Need-loop-again Inv-loop μ-loop
+loop-again c =
+    let l = c .before .before .before .before .loop in
+    let a = c .before .before .before .before .before .before .args in
+    (search needs, λ z j h g. between-turn (λ j. openerSize (drop j (a .s .now)) ≡ 0) (a .i) (a .i + l .k) (l .stands) _ (l .inv .1) (not-quote-at (a .s .now) (a .i + l .k) (c .may-open .ensures) refl refl) z j h (omega arith))
+
+-- src/tag.rt:68:1
+returns : tie.Need-returns Inv-loop μ-loop
+returns c = let l = c .before .loop in λ z j h g. l .inv .1 z j h (omega arith)
+
+pub quote-in-16-spec : {M : Type 1} → statement M
+quote-in-16-spec =
+    tie.close
+    (tie.spec
+    Inv-loop
+    μ-loop
+    loop-holds
+    add-may-open
+    shared-slice-read-may-open
+    add-may-open-2
+    add-may-open-3
+    shared-slice-read-may-open-2
+    may-open-requires
+    add-k
+    loop-less
+    loop-again
+    returns)
