@@ -1,24 +1,26 @@
 -- Laws of the first usable field of a kind. Assumes nothing.
 use mathlib.Core.Path.{_≡_, refl, sym, ap, _∙_}
-use mathlib.Core.Bool.{Bool, true, false, cond, not, _&&_, true≢false}
-use mathlib.Core.List.{List, [], _∷_, _++_}
+use mathlib.Core.Bool.{Bool, true, false, cond, not, _&&_, _||_, true≢false}
+use mathlib.Core.List.{List, [], _∷_}
 use Prim.Native.Nat.{ℕ, zero, suc, _+_, _-_, _≤_, _<_}
-use native.Mathlib.Nat.{add-sub-cancel-left, add-zero, le-of-suc-le-suc, not-suc-le-zero}
-use native.Mathlib.Numerals.{add-one}
+use native.Mathlib.Nat.{add-sub-cancel-left, add-zero}
 use native.Mathlib.Omega.{arith}
+use native.Mathlib.Decide.{ℕ-discrete}
 use lib.Dec.{eqb, ltb}
 use lib.ListN.{length, take, drop, getD, drop-of-length-le, length-drop, List·getD-eq-default}
 use lib.Seq.{length-take-le, getD-drop}
-use borrow.Author.Tests.{eq-eqb, ne-eqb, lt-ltb, le-ltb}
-use Rattle.text.specs.Ascii.{small, begins, spells, isEmpty, digits, allDigits}
+use borrow.Author.Tests.{eq-eqb, ne-eqb, eqb-true, eqb-false, lt-ltb}
+use Rattle.text.specs.Ascii.{ascii, is, small, begins, spells, isEmpty, digits, allDigits}
 use Rattle.attribution_parts.specs.declared.Kind.{Kind}
 use Rattle.attribution_parts.specs.declared.Kind.the-variants.{Name, PostId, Id, Date, Time}
+use Rattle.attribution_reading.specs.declared.facts.Field.{Field}
+use Rattle.attribution_reading.specs.declared.facts.Fields.{Fields}
 use Rattle.attribution_reading.specs.declared.scan.Place.{Place}
 use Rattle.attribution_parts.specs.Parts.{Part, field, text, parts}
-use Rattle.attribution_parts.specs.Attribution.{isKind, isUsable, counts, first, fieldOf, valueOf, partNo, orElse}
+use Rattle.attribution_parts.specs.Attribution.{isKind, isUsable, counts, first, fieldOf, valueOf, partNo}
 use Rattle.attribution_reading.specs.Places.{bytes, partOf, partWith, Stands, Scanned}
-use Rattle.attribution_reading.specs.Reads.{FieldAt}
-use Rattle.attribution_reading.proofs.Laws.{drop-more}
+use Rattle.attribution_reading.specs.Reads.{FieldAt, FieldsAt}
+use Rattle.attribution_reading.proofs.Laws.{scan-on}
 
 -- ---- words and values
 
@@ -84,6 +86,10 @@ value-of s p = by (p .keylen)
     by zero = refl
     by (suc n) = refl
 
+and-left : (a b : Bool) → (a && b) ≡ true → a ≡ true
+and-left true b p = refl
+and-left false b p = absurd (true≢false (sym p))
+
 and-right : (a b : Bool) → (a && b) ≡ true → b ≡ true
 and-right true b p = p
 and-right false b p = absurd (true≢false (sym p))
@@ -100,56 +106,171 @@ counts-some : (k : Kind) (q : Part) → counts k q ≡ true → 0 < length (valu
 counts-some k (field key v) h = usable-some k v (and-right (isKind k key) (isUsable k v) h)
 counts-some k (text w quoted) h = absurd (true≢false (sym h))
 
+pub keeps-inside : {s : List ℕ} {at : ℕ} {p : Place} → Scanned s at p → (p .key + p .keylen ≤ length s) × (p .from + p .size ≤ length s)
+keeps-inside sc = (omega (arith, sc .key-ends, sc .inside), omega (arith, sc .ends, sc .inside))
+
 -- ---- looking for the first
 
 pub part-no : (i : ℕ) (ps : List Part) (q : Part) (rest : List Part) → drop i ps ≡ q ∷ rest → partNo i ps ≡ q
 part-no i ps q rest e = sym (getD-drop i ps 0 (text [] false) ∙ ap (λ (x : ℕ). partNo x ps) (add-zero i)) ∙ ap (λ (l : List Part). partNo 0 l) e
 
-pub record Looking (s : List ℕ) (k : Kind) (i at : ℕ) : Type 0 where
-  pub stands : Stands s i at
-  pub slow : i ≤ at
-  pub goal : first k (parts 0 s) ≡ i + first k (parts 0 (drop at s))
+-- what is known of the field of kind k once the scanner stands at `at`, behind i parts: it is the first one, or there is none among them
+pub record Found (s : List ℕ) (k : Kind) (i at : ℕ) (f : Field) : Type 0 where
+  pub inside : f .from + f .size ≤ length s
+  pub no : f .size ≡ 0 → first k (parts 0 s) ≡ i + first k (parts 0 (drop at s))
+  pub yes : (f .size ≡ 0 → ⊥) → FieldAt s k f
 
-pub look-first : (s : List ℕ) (k : Kind) (at : ℕ) → Stands s 0 at → Looking s k 0 at
-look-first s k at st = record { stands = st; slow = omega arith; goal = ap (first k) (st .rest) ∙ sym (zero-plus (first k (parts 0 (drop at s)))) }
+abbrev nothing : Field
+nothing = record { from = 0; size = 0; index = 0 }
+
+found-first : (s : List ℕ) (k : Kind) (at : ℕ) → Stands s 0 at → Found s k 0 at nothing
+found-first s k at st = record { inside = omega arith; no = λ _. ap (first k) (st .rest) ∙ sym (zero-plus (first k (parts 0 (drop at s)))); yes = λ n. absurd (n refl) }
   where
     zero-plus : (n : ℕ) → 0 + n ≡ n
     zero-plus n = omega arith
 
-module _ (s : List ℕ) (k : Kind) (i at : ℕ) (p : Place) (l : Looking s k i at) (sc : Scanned s at p) where
-  pub look-found : counts k (partOf s p) ≡ true → FieldAt s k (record { from = p .from; size = p .size; index = i })
-  unfolding first fieldOf
-  look-found h =
-      let f : first k (parts 0 s) ≡ i = l .goal ∙ rw (sc .part, h) (add-zero i) in
-      let v = value-of s p in
-      let n = length-bytes s (p .from) (p .size) (omega (arith, sc .ends, sc .inside)) in
-      let m = counts-some k (partOf s p) h in
-      let z : 0 < p .size = omega (arith, ap length v, n, m) in
-      record {
-        words = sym (rw (f, part-no i (parts 0 s) (partOf s p) (parts 0 (drop (p .next) s)) (l .stands .rest ∙ sc .part)) v);
-        inside = omega (arith, sc .ends, sc .inside);
-        here = λ j lt. rw (lt-ltb 0 (p .size) z, f);
-      }
-
-  pub look-next : counts k (partOf s p) ≡ false → Stands s (i + 1) (p .next) → Looking s k (i + 1) (p .next)
+module _ (s : List ℕ) (k : Kind) (i at : ℕ) (p : Place) (f : Field) (st : Stands s i at) (sc : Scanned s at p) (d : Found s k i at f) where
+  found-passed : counts k (partOf s p) ≡ false → Found s k (i + 1) (p .next) f
   unfolding first
-  look-next h st = record {
-    stands = st;
-    slow = omega (arith, sc .grows, l .slow);
-    goal = l .goal ∙ rw (sc .part, h) (omega arith);
-  }
+  found-passed h = record { inside = d .inside; no = λ z. d .no z ∙ rw (sc .part, h) (omega arith); yes = d .yes }
 
-pub look-none : (s : List ℕ) (k : Kind) (i at : ℕ) → Looking s k i at → length s ≤ at → FieldAt s k (record { from = 0; size = 0; index = 0 })
+  found-here : counts k (partOf s p) ≡ true → Found s k (i + 1) (p .next) (cond (eqb (f .size) 0) (record { from = p .from; size = p .size; index = i }) f)
+  unfolding first fieldOf
+  found-here h = elim (ℕ-discrete (f .size) 0) [ yes z ↦ rw (eq-eqb (f .size) 0 z) (new z) | no n ↦ rw (ne-eqb (f .size) 0 n) (old n) ]
+    where
+      old : (f .size ≡ 0 → ⊥) → Found s k (i + 1) (p .next) f
+      old n = record { inside = d .inside; no = λ z. absurd (n z); yes = d .yes }
+
+      new : f .size ≡ 0 → Found s k (i + 1) (p .next) (record { from = p .from; size = p .size; index = i })
+      new z =
+          let e : first k (parts 0 s) ≡ i = d .no z ∙ rw (sc .part, h) (add-zero i) in
+          let v = value-of s p in
+          let n = length-bytes s (p .from) (p .size) (omega (arith, sc .ends, sc .inside)) in
+          let m = counts-some k (partOf s p) h in
+          let w : 0 < p .size = omega (arith, ap length v, n, m) in
+          record {
+            inside = omega (arith, sc .ends, sc .inside);
+            no = λ o. absurd (omega arith);
+            yes = λ _. record {
+              words = sym (rw (e, part-no i (parts 0 s) (partOf s p) (parts 0 (drop (p .next) s)) (st .rest ∙ sc .part)) v);
+              inside = omega (arith, sc .ends, sc .inside);
+              here = λ j lt. rw (lt-ltb 0 (p .size) w, e);
+            };
+          }
+
+-- behind the last part
+found-all : (s : List ℕ) (k : Kind) (i at : ℕ) (f : Field) → Stands s i at → length s ≤ at → Found s k i at f → FieldAt s k f
 unfolding first fieldOf bytes parts
-look-none s k i at l le =
-    let d : parts 0 (drop at s) ≡ [] = rw (drop-of-length-le s {i = at} le) in
-    let f : first k (parts 0 s) ≡ i = l .goal ∙ rw d (add-zero i) in
-    let n : length (parts 0 s) ≤ i = short i (parts 0 s) (l .stands .rest ∙ d) in
-    record {
-      words = sym (rw (f, List·getD-eq-default (parts 0 s) (text [] false) {n = i} n));
-      inside = omega arith;
-      here = λ j lt. rw f (sym (ne-eqb j i (λ (e : j ≡ i). omega arith)));
-    }
+found-all s k i at f st le d = elim (ℕ-discrete (f .size) 0) [ yes z ↦ none z | no n ↦ d .yes n ]
   where
     short : (j : ℕ) (qs : List Part) → drop j qs ≡ [] → length qs ≤ j
     short j qs e = let m = length-drop j qs in let z = ap length e in omega (arith, m, z)
+
+    none : f .size ≡ 0 → FieldAt s k f
+    none z =
+        let o : parts 0 (drop at s) ≡ [] = rw (drop-of-length-le s {i = at} le) in
+        let e : first k (parts 0 s) ≡ i = d .no z ∙ rw o (add-zero i) in
+        let n : length (parts 0 s) ≤ i = short i (parts 0 s) (st .rest ∙ o) in
+        record {
+          words = rw z (sym (rw (e, List·getD-eq-default (parts 0 s) (text [] false) {n = i} n)));
+          inside = d .inside;
+          here = λ j lt. rw (z, e) (sym (ne-eqb j i (λ (q : j ≡ i). omega arith)));
+        }
+
+-- ---- a part is a usable field of one kind at most: its key's first letter says which
+
+abbrev number : Kind → ℕ
+number Name = 0
+number PostId = 1
+number Id = 2
+number Date = 3
+number Time = 4
+
+abbrev byLetter : ℕ → ℕ
+byLetter b = cond (is "p" b) 1 (cond (is "i" b) 2 (cond (is "d" b) 3 (cond (is "t" b) 4 0)))
+
+first-letter : (a : ℕ) (w key : List ℕ) → spells (a ∷ w) key ≡ true → small (getD key 0 0) ≡ a
+unfolding spells
+first-letter a w [] h = absurd (true≢false (sym h))
+first-letter a w (b ∷ key) h = eqb-true (small b) a (and-left (eqb (small b) a) (spells w key) h)
+
+kind-letter : (k : Kind) (key : List ℕ) → isKind k key ≡ true → byLetter (small (getD key 0 0)) ≡ number k
+kind-letter Name key h = by (spells (ascii "name") key) refl h
+  where
+    by : (t : Bool) → spells (ascii "name") key ≡ t → (t || spells (ascii "author") key) ≡ true → byLetter (small (getD key 0 0)) ≡ 0
+    by true p o = rw (first-letter 110 (ascii "ame") key p)
+    by false p o = rw (first-letter 97 (ascii "uthor") key o)
+kind-letter PostId key h = rw (first-letter 112 (ascii "ost_id") key h)
+kind-letter Id key h = rw (first-letter 105 (ascii "d") key h)
+kind-letter Date key h = rw (first-letter 100 (ascii "ate") key h)
+kind-letter Time key h = rw (first-letter 116 (ascii "ime") key h)
+
+other-kind : (j k : Kind) (q : Part) → counts j q ≡ true → eqb (number k) (number j) ≡ false → counts k q ≡ false
+other-kind j k (text w quoted) h n = refl
+other-kind j k (field key v) h n = by (isKind k key) refl
+  where
+    by : (t : Bool) → isKind k key ≡ t → (t && isUsable k v) ≡ false
+    by true e = absurd (eqb-false (number k) (number j) n (sym (kind-letter k key e) ∙ kind-letter j key (and-left (isKind j key) (isUsable j v) h)))
+    by false e = refl
+
+-- ---- all kinds
+
+pub record Reading (s : List ℕ) (i at : ℕ) (f : Fields) : Type 0 where
+  pub stands : Stands s i at
+  pub slow : i ≤ at
+  pub name : Found s Name i at (f .name)
+  pub post : Found s PostId i at (f .post)
+  pub id : Found s Id i at (f .id)
+  pub date : Found s Date i at (f .date)
+  pub time : Found s Time i at (f .time)
+
+pub read-first : (s : List ℕ) (at : ℕ) → Stands s 0 at → Reading s 0 at (record { name = nothing; post = nothing; id = nothing; date = nothing; time = nothing })
+read-first s at st = record { stands = st; slow = omega arith; name = found-first s Name at st; post = found-first s PostId at st; id = found-first s Id at st; date = found-first s Date at st; time = found-first s Time at st }
+
+module _ {s : List ℕ} {i at : ℕ} {p : Place} {f : Fields} (r : Reading s i at f) (sc : Scanned s at p) where
+  -- the field of the kind that the part is of
+  abbrev taken : Field → Field
+  taken g = cond (eqb (g .size) 0) (record { from = p .from; size = p .size; index = i }) g
+
+  stood : Stands s (i + 1) (p .next)
+  stood = scan-on s i at p (r .stands) sc
+
+  slow-on : i + 1 ≤ p .next
+  slow-on = omega (arith, sc .grows, r .slow)
+
+  passed : (k : Kind) (g : Field) → Found s k i at g → counts k (partOf s p) ≡ false → Found s k (i + 1) (p .next) g
+  passed k g d h = found-passed s k i at p g (r .stands) sc d h
+
+  own : (k : Kind) (g : Field) → Found s k i at g → counts k (partOf s p) ≡ true → Found s k (i + 1) (p .next) (taken g)
+  own k g d h = found-here s k i at p g (r .stands) sc d h
+
+  pub read-none : counts Name (partOf s p) ≡ false → counts PostId (partOf s p) ≡ false → counts Id (partOf s p) ≡ false → counts Date (partOf s p) ≡ false → counts Time (partOf s p) ≡ false → Reading s (i + 1) (p .next) f
+  read-none n o e d t = record { stands = stood; slow = slow-on; name = passed Name (f .name) (r .name) n; post = passed PostId (f .post) (r .post) o; id = passed Id (f .id) (r .id) e; date = passed Date (f .date) (r .date) d; time = passed Time (f .time) (r .time) t }
+
+  pub read-text : p .keylen ≡ 0 → Reading s (i + 1) (p .next) f
+  read-text z = read-none (no-field s p Name z) (no-field s p PostId z) (no-field s p Id z) (no-field s p Date z) (no-field s p Time z)
+
+  module _ (j : Kind) (h : counts j (partOf s p) ≡ true) where
+    other : (k : Kind) (g : Field) → Found s k i at g → eqb (number k) (number j) ≡ false → Found s k (i + 1) (p .next) g
+    other k g d n = passed k g d (other-kind j k (partOf s p) h n)
+
+  pub read-name : counts Name (partOf s p) ≡ true → Reading s (i + 1) (p .next) (record { name = taken (f .name); post = f .post; id = f .id; date = f .date; time = f .time })
+  read-name h = record { stands = stood; slow = slow-on; name = own Name (f .name) (r .name) h; post = other Name h PostId (f .post) (r .post) refl; id = other Name h Id (f .id) (r .id) refl; date = other Name h Date (f .date) (r .date) refl; time = other Name h Time (f .time) (r .time) refl }
+
+  pub read-post : counts PostId (partOf s p) ≡ true → Reading s (i + 1) (p .next) (record { name = f .name; post = taken (f .post); id = f .id; date = f .date; time = f .time })
+  read-post h = record { stands = stood; slow = slow-on; name = other PostId h Name (f .name) (r .name) refl; post = own PostId (f .post) (r .post) h; id = other PostId h Id (f .id) (r .id) refl; date = other PostId h Date (f .date) (r .date) refl; time = other PostId h Time (f .time) (r .time) refl }
+
+  pub read-id : counts Id (partOf s p) ≡ true → Reading s (i + 1) (p .next) (record { name = f .name; post = f .post; id = taken (f .id); date = f .date; time = f .time })
+  read-id h = record { stands = stood; slow = slow-on; name = other Id h Name (f .name) (r .name) refl; post = other Id h PostId (f .post) (r .post) refl; id = own Id (f .id) (r .id) h; date = other Id h Date (f .date) (r .date) refl; time = other Id h Time (f .time) (r .time) refl }
+
+  pub read-date : counts Date (partOf s p) ≡ true → Reading s (i + 1) (p .next) (record { name = f .name; post = f .post; id = f .id; date = taken (f .date); time = f .time })
+  read-date h = record { stands = stood; slow = slow-on; name = other Date h Name (f .name) (r .name) refl; post = other Date h PostId (f .post) (r .post) refl; id = other Date h Id (f .id) (r .id) refl; date = own Date (f .date) (r .date) h; time = other Date h Time (f .time) (r .time) refl }
+
+  pub read-time : counts Time (partOf s p) ≡ true → Reading s (i + 1) (p .next) (record { name = f .name; post = f .post; id = f .id; date = f .date; time = taken (f .time) })
+  read-time h = record { stands = stood; slow = slow-on; name = other Time h Name (f .name) (r .name) refl; post = other Time h PostId (f .post) (r .post) refl; id = other Time h Id (f .id) (r .id) refl; date = other Time h Date (f .date) (r .date) refl; time = own Time (f .time) (r .time) h }
+
+pub read-all : {s : List ℕ} {i at : ℕ} {f : Fields} → Reading s i at f → length s ≤ at → FieldsAt s f
+read-all {s} {i} {at} {f} r le = record { name = all Name (f .name) (r .name); post = all PostId (f .post) (r .post); id = all Id (f .id) (r .id); date = all Date (f .date) (r .date); time = all Time (f .time) (r .time) }
+  where
+    all : (k : Kind) (g : Field) → Found s k i at g → FieldAt s k g
+    all k g = found-all s k i at g (r .stands) le

@@ -170,7 +170,7 @@ unfolding partOf
 place-next s k zero f z a b = refl
 place-next s k (suc l) f z a b = refl
 
-pub drop-more : {A : Type 0} (i : ℕ) (xs : List A) (x : A) (ys : List A) → drop i xs ≡ x ∷ ys → drop (suc i) xs ≡ ys
+drop-more : {A : Type 0} (i : ℕ) (xs : List A) (x : A) (ys : List A) → drop i xs ≡ x ∷ ys → drop (suc i) xs ≡ ys
 drop-more zero xs x ys e = rw e
 drop-more (suc i) [] x ys e = absurd (nil≢cons e)
 drop-more (suc i) (y ∷ xs) x ys e = drop-more i xs x ys e

@@ -10,14 +10,16 @@ use text::PostAt;
 use text::scan::begins_at;
 use text::scan::is_inside;
 ghost use mathlib.Core.Path.{_≡_};
+ghost use mathlib.Core.Bool.{cond};
 ghost use mathlib.Core.List.{[]};
 ghost use Prim.Native.Nat.{_+_, _≤_, _<_};
+ghost use lib.Dec.{eqb};
 ghost use lib.ListN.{length};
 ghost use Rattle.text.specs.Ascii.{spells, digits};
 ghost use Rattle.attribution_parts.specs.Attribution.{isKind, isUsable, counts, isLeading, leading, given, toSuffix};
 ghost use Rattle.attribution_parts.specs.Parts.{parts};
 ghost use Rattle.attribution_reading.specs.Places.{partOf, Stands};
-ghost use Rattle.attribution_reading.specs.Reads.{FieldAt, FieldsAt, LeadAt, LastStep, LastAt, EndsAt};
+ghost use Rattle.attribution_reading.specs.Reads.{FieldsAt, LeadAt, LastStep, LastAt, EndsAt};
 
 // Where a field's value stands (no bytes: there is none), and the field's index.
 pub struct Field {
@@ -127,40 +129,55 @@ fn counts_as(s: &[u8], p: Place, k: Kind) -> bool
     false
 }
 
-// The first usable field of a kind, where the first part begins at `start`.
-fn first_field(s: &[u8], start: usize, k: Kind) -> Field
-    requires { ⌜ Stands (now s) 0 start ⌝ }
-    ensures { λ r. ⌜ FieldAt (now (s .entry)) k r ⌝ }
+// The field that was found before, else the one that is found here.
+fn earlier(found: Field, here: Field) -> Field
+    ensures { λ r. ⌜ r ≡ cond (eqb (found .size) 0) here found ⌝ }
 {
-    let mut i: usize = 0;
-    let mut reader = reader_at(s, start);
-    while reader.next < s.len() {
-        let p = next_part(&mut reader);
-        if counts_as(s, p, k) {
-            return Field {
-                from: p.from,
-                size: p.size,
-                index: i,
-            };
-        }
-        i += 1;
+    if found.size == 0 {
+        return here;
     }
-    Field {
-        from: 0,
-        size: 0,
-        index: 0,
-    }
+    found
 }
 
+// One pass over the parts. A part is a usable field of one kind at most.
 pub fn read_fields(s: &[u8]) -> Fields
     ensures { λ r. ⌜ FieldsAt (now (s .entry)) r ⌝ }
 {
-    let start = first_at(s);
-    let name = first_field(s, start, Kind::Name);
-    let post = first_field(s, start, Kind::PostId);
-    let id = first_field(s, start, Kind::Id);
-    let date = first_field(s, start, Kind::Date);
-    let time = first_field(s, start, Kind::Time);
+    let none = Field {
+        from: 0,
+        size: 0,
+        index: 0,
+    };
+    let mut name = none;
+    let mut post = none;
+    let mut id = none;
+    let mut date = none;
+    let mut time = none;
+    let mut i: usize = 0;
+    let mut at = first_at(s);
+    while at < s.len() {
+        let p = read_part(s, at);
+        let here = Field {
+            from: p.from,
+            size: p.size,
+            index: i,
+        };
+        i += 1;
+        at = p.next;
+        if p.keylen != 0 {
+            if counts_as(s, p, Kind::Name) {
+                name = earlier(name, here);
+            } else if counts_as(s, p, Kind::PostId) {
+                post = earlier(post, here);
+            } else if counts_as(s, p, Kind::Id) {
+                id = earlier(id, here);
+            } else if counts_as(s, p, Kind::Date) {
+                date = earlier(date, here);
+            } else if counts_as(s, p, Kind::Time) {
+                time = earlier(time, here);
+            }
+        }
+    }
     Fields {
         name: name,
         post: post,

@@ -1,11 +1,13 @@
 -- Laws of writing a quote's block. Assumes nothing.
-use mathlib.Core.Path.{_≡_, refl, sym, ap, subst, _∙_}
+use mathlib.Core.Path.{_≡_, refl, sym, ap, _∙_}
 use Prim.Native.Nat.{ℕ, _+_, _≤_, _<_}
 use native.Mathlib.Omega.{arith}
 use native.Mathlib.Decide.{decLe}
-use mathlib.Core.Bool.{Bool, true, false}
+use mathlib.Core.Bool.{Bool, true, false, _||_, true≢false}
 use mathlib.Core.List.{List, [], _∷_, _++_, map, append-nil}
+use lib.Dec.{ltb}
 use lib.ListN.{length, take, length-append}
+use borrow.Author.Tests.{ltb-true, ltb-false}
 use lib.Seq.{length-take-le}
 use Rattle.text.specs.Ascii.{ascii, computes as asciiComputes}
 use Rattle.text.specs.Blanks.{computes as blanksCompute}
@@ -72,6 +74,21 @@ cells-same bs ns bs' ns' p q =
     let y = cells-le bs ns (length (cells bs' ns')) (omega arith) (omega arith) in
     omega arith
 
+-- whether a place is past their end goes by both lengths
+pub is-past : (bs ns : List ℕ) (k : ℕ) → (ltb (length bs) k || ltb (length ns) k) ≡ true → length (cells bs ns) < k
+is-past bs ns k h = by (ltb (length bs) k) refl h
+  where
+    by : (t : Bool) → ltb (length bs) k ≡ t → (t || ltb (length ns) k) ≡ true → length (cells bs ns) < k
+    by true e o = let l = cells-short bs ns in let f = ltb-true (length bs) k e in omega arith
+    by false e o = let l = cells-short₂ bs ns in let f = ltb-true (length ns) k o in omega arith
+
+pub not-past : (bs ns : List ℕ) (k : ℕ) → (ltb (length bs) k || ltb (length ns) k) ≡ false → k ≤ length (cells bs ns)
+not-past bs ns k h = by (ltb (length bs) k) refl h
+  where
+    by : (t : Bool) → ltb (length bs) k ≡ t → (t || ltb (length ns) k) ≡ false → k ≤ length (cells bs ns)
+    by true e o = absurd (true≢false o)
+    by false e o = cells-le bs ns k (ltb-false (length bs) k e) (ltb-false (length ns) k o)
+
 -- what does not fit
 pub past-end : (v : List Cell) (at far : ℕ) (t : List Cell) → length v < at + length t → length v < far → at ≤ far → Appends v at v far t
 past-end v at far t short lt up = record {
@@ -83,39 +100,65 @@ past-end v at far t short lt up = record {
   grows = up;
 }
 
-module _ {v v₁ : List Cell} {at z : ℕ} (w : List ℕ) (a : Appends v at v₁ z (written w)) (fit : at ≤ length v) (size : length v₁ ≡ length v) where
-  -- how far it went
-  moved : (at + length (written w) ≤ length v → z ≡ at + length (written w)) × (length v < at + length (written w) → length v < z)
-  moved =
-      let n : length (take at v) ≡ at = length-take-le at v fit in
-      let l : length (take at v ++ written w) ≡ at + length (written w) = length-append (take at v) (written w) ∙ ap (λ (k : ℕ). k + length (written w)) n in
-      let h : Holds v₁ z (take at v ++ written w) = a .step (take at v) (record { end = λ _. sym n; text = λ _. refl; full = λ lt. absurd (omega arith) }) in
-      (λ le. h .end (omega arith) ∙ l, λ lt. (let f = h .full (omega arith) in omega arith))
+-- what has been appended does not count
+taken-back : {v v' t : List Cell} {at at' : ℕ} → Appends v at v' at' t → length v' ≡ length v → Appends v at v' at []
+taken-back a size = record {
+  step = λ s h. rw append-nil (record { end = λ le. h .end (omega arith); text = λ le. a .keeps ∙ h .text (omega arith); full = λ lt. (let f = h .full (omega arith) in omega arith) });
+  keeps = a .keeps;
+  grows = omega arith;
+}
 
-  -- nothing has been written
-  pub caption-none : z ≡ at → Appends v at v₁ at (captionLine w)
-  unfolding captionLine written cellsFrom
-  caption-none e = by w moved (subst (λ (k : ℕ). Appends v at v₁ k (written w)) e a)
-    where
-      by : (w' : List ℕ) → ((at + length (written w') ≤ length v → z ≡ at + length (written w')) × (length v < at + length (written w') → length v < z)) → Appends v at v₁ at (written w') → Appends v at v₁ at (captionLine w')
-      by [] m b = b
-      by (x ∷ s) m b = absurd (elim (decLe (at + length (written (x ∷ s))) (length v)) [ yes p ↦ (let q = m .0 p in omega arith) | no p ↦ (let q = m .1 (omega arith) in omega arith) ])
+-- how far a text went, from a place within
+moved : {v v' t : List Cell} {at at' : ℕ} → Appends v at v' at' t → at ≤ length v → length v' ≡ length v → (at + length t ≤ length v → at' ≡ at + length t) × (length v < at + length t → length v < at')
+moved {v} {v'} {t} {at} {at'} a fit size =
+    let n : length (take at v) ≡ at = length-take-le at v fit in
+    let l : length (take at v ++ t) ≡ at + length t = length-append (take at v) t ∙ ap (λ (k : ℕ). k + length t) n in
+    let h : Holds v' at' (take at v ++ t) = a .step (take at v) (record { end = λ _. sym n; text = λ _. refl; full = λ lt. absurd (omega arith) }) in
+    (λ le. h .end (omega arith) ∙ l, λ lt. (let f = h .full (omega arith) in omega arith))
 
-  -- what was written is written anew behind LF `^ `
-  pub caption-some : {v₂ v₃ : List Cell} {at₂ at₃ : ℕ} → (z ≡ at → ⊥) → Appends v₁ at v₂ at₂ (written (ascii "\n^ ")) → Appends v₂ at₂ v₃ at₃ (written w) → Appends v at v₃ at₃ (captionLine w)
-  unfolding captionLine written cellsFrom asciiComputes blanksCompute cellsCompute
-  caption-some {v₂} {v₃} {at₂} {at₃} n p q = by w moved q
-    where
-      back : Appends v at v₁ at []
-      back = record {
-        step = λ s h. rw append-nil (record { end = λ le. h .end (omega arith); text = λ le. a .keeps ∙ h .text (omega arith); full = λ lt. (let f = h .full (omega arith) in omega arith) });
-        keeps = a .keeps;
-        grows = omega arith;
-      }
+-- so the place tells whether there was any
+nothing-moved : {v v' t : List Cell} {at at' : ℕ} → Appends v at v' at' t → at ≤ length v → length v' ≡ length v → at' ≡ at → length t ≡ 0
+nothing-moved {v} {v'} {t} {at} {at'} a fit size e = let m = moved a fit size in elim (decLe (at + length t) (length v)) [ yes p ↦ (let q = m .0 p in omega arith) | no p ↦ absurd (let q = m .1 (omega arith) in omega arith) ]
 
-      by : (w' : List ℕ) → ((at + length (written w') ≤ length v → z ≡ at + length (written w')) × (length v < at + length (written w') → length v < z)) → Appends v₂ at₂ v₃ at₃ (written w') → Appends v at v₃ at₃ (captionLine w')
-      by [] m b = absurd (n (let q = m .0 (omega arith) in omega arith))
-      by (x ∷ s) m b = appends-then back (appends-then p b)
+something-moved : {v v' t : List Cell} {at at' : ℕ} → Appends v at v' at' t → at ≤ length v → length v' ≡ length v → (at' ≡ at → ⊥) → 0 < length t
+something-moved {v} {v'} {t} {at} {at'} a fit size n = let m = moved a fit size in elim (decLe (length t) 0) [ yes p ↦ absurd (n (let q = m .0 (omega arith) in omega arith)) | no p ↦ omega arith ]
+
+line-none : (w : List ℕ) → length (written w) ≡ 0 → captionLine w ≡ []
+unfolding captionLine written cellsFrom
+line-none [] e = refl
+line-none (b ∷ s) e = absurd (omega arith)
+
+line-some : (w : List ℕ) → 0 < length (written w) → captionLine w ≡ written (ascii "\n^ ") ++ written w
+unfolding captionLine written cellsFrom asciiComputes blanksCompute cellsCompute
+line-some [] h = absurd (omega arith)
+line-some (b ∷ s) h = refl
+
+module _ {v v₁ v₂ : List Cell} {at x z : ℕ} (w : List ℕ) (p : Appends v at v₁ x (written (ascii "\n^ "))) (size : length v₁ ≡ length v) (size₂ : length v₂ ≡ length v) where
+  -- the caption behind LF `^ `
+  module _ (q : Appends v₁ x v₂ z (written w)) (fit : x ≤ length v₁) where
+    pub caption-none : z ≡ x → Appends v at v₂ at (captionLine w)
+    caption-none e = rw (line-none w (nothing-moved q (omega arith) (omega arith) e)) (taken-back (appends-then p q) size₂)
+
+    pub caption-some : (z ≡ x → ⊥) → Appends v at v₂ z (captionLine w)
+    caption-some n = rw (line-some w (something-moved q (omega arith) (omega arith) n)) (appends-then p q)
+
+  -- the caption in place of LF `^ `, which does not fit
+  module _ (q : Appends v₁ at v₂ z (written w)) (far : length v₁ < x) where
+    same : Appends v at v₂ at []
+    same = taken-back (appends-then (taken-back p size) q) size₂
+
+    pub tight-none : z ≡ at → Appends v at v₂ at (captionLine w)
+    tight-none e = elim (decLe at (length v)) [
+      | yes fit ↦ rw (line-none w (nothing-moved q (omega arith) (omega arith) e)) same
+      | no out ↦ appends-then same (past-end v₂ at at (captionLine w) (omega arith) (omega arith) (omega arith))
+    ]
+
+    pub tight-some : (z ≡ at → ⊥) → Appends v at v₂ x (captionLine w)
+    tight-some n = elim (decLe at (length v)) [
+      | yes fit ↦ (let m = moved p fit size in let s = something-moved q (omega arith) (omega arith) n in let l = ap length (line-some w s) ∙ length-append (written (ascii "\n^ ")) (written w) in
+          appends-then same (past-end v₂ at x (captionLine w) (elim (decLe (at + length (written (ascii "\n^ "))) (length v)) [ yes k ↦ absurd (let e = m .0 k in omega arith) | no k ↦ omega arith ]) (omega arith) (p .grows)))
+      | no out ↦ appends-then same (past-end v₂ at x (captionLine w) (omega arith) (omega arith) (p .grows))
+    ]
 
 -- ---- the block
 

@@ -13,7 +13,8 @@ ghost use Rattle.attribution_parts.specs.Attribution.{caption};
 ghost use Rattle.attribution_losses.specs.Captions.{nameTexts};
 ghost use Rattle.quote_blocks.specs.Quotes.{captionLine, quoteBlock};
 
-// Appends LF `^ ` caption, if the attribution has one.
+// Appends LF `^ ` caption, if the attribution has one: where the caption turns out empty, the place before LF `^ ` is given back. Where not
+// even LF `^ ` fits, the caption alone says whether it is empty.
 fn put_caption_line<'a>(
     attribution: &'a [u8],
     joined: &'a [u8],
@@ -25,19 +26,20 @@ fn put_caption_line<'a>(
     ensures { λ r. ⌜ Appends (cells (now (buf .entry)) (now (nums .entry))) (at .0) (cells (now (buf .exit)) (now (nums .exit))) (r .0) (captionLine (caption (now (attribution .entry)))) ⌝ }
 {
     let i = at.0;
-    if buf.len() < i {
-        return at;
-    }
-    if nums.len() < i {
-        return at;
-    }
-    let z = put_caption(attribution, joined, buf, nums, at);
-    let k = z.0;
-    if k == i {
-        return at;
-    }
     let x = put_text(b"\n^ ", buf, nums, at);
-    put_caption(attribution, joined, buf, nums, x)
+    let k = x.0;
+    if (buf.len() < k) | (nums.len() < k) {
+        let y = put_caption(attribution, joined, buf, nums, at);
+        if y.0 == i {
+            return at;
+        }
+        return x;
+    }
+    let z = put_caption(attribution, joined, buf, nums, x);
+    if z.0 == k {
+        return at;
+    }
+    z
 }
 
 // Writes the block of the quote with the content from a up to e; `joined` are the joined texts of its attribution, where they make the name.

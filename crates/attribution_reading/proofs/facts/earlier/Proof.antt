@@ -1,0 +1,23 @@
+use borrow.Author.Needs.{needs}
+use native.Mathlib.Omega.{arith}
+use mathlib.Core.Path.{_≡_, refl, sym, ap, _∙_}
+use Prim.Native.Nat.{ℕ, suc, _+_, _-_, _≤_, _<_}
+use mathlib.Core.List.{List, [], _∷_, _++_}
+use lib.ListN.{length, getD}
+use borrow.Author.Tests.{eq-eqb, ne-eqb}
+use Rattle.text.proofs.Decide.{cond-yes, cond-no}
+use Rattle.attribution_reading.proofs.facts.earlier.Statement.{statement}
+use Rattle.attribution_reading.proofs.facts.earlier.Tie as tie
+use Rattle.attribution_reading.proofs.facts.earlier.Reads as reads
+use Rattle.attribution_reading.proofs.facts.earlier.Lts as lts
+
+-- src/facts.rt:137:9
+returns : tie.Need-returns
+returns c = sym (cond-yes _ _ _ _ (eq-eqb _ _ (c .if1 .taken)) refl)
+
+-- src/facts.rt:133:1
+returns-2 : tie.Need-returns-2
+returns-2 c = sym (cond-no _ _ _ _ (ne-eqb _ _ (c .if1 .left)) refl)
+
+pub earlier-spec : {M : Type 1} → statement M
+earlier-spec = tie.close (tie.spec returns returns-2)
