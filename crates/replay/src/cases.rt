@@ -1,5 +1,6 @@
 // The file of cases: a line that says what a case shows, the line of its post, its listing, an empty line.
 ghost use mathlib.Core.Path.{_≡_};
+ghost use mathlib.Core.List.{[], _∷_, _++_};
 ghost use Prim.Native.Nat.{_≤_, _<_};
 ghost use lib.ListN.{length};
 ghost use Rattle.quote_lines.specs.Lines.{same};
@@ -57,7 +58,9 @@ pub fn is_same(a: &[u8], b: &[u8]) -> bool
 }
 
 // Whether the end of a case is this listing and an empty line.
-pub fn is_answer(answer: &[u8], listing: &[u8]) -> bool {
+pub fn is_answer(answer: &[u8], listing: &[u8]) -> bool
+    ensures { λ r. ⌜ r ≡ same (now (answer .entry)) (now (listing .entry) ++ (10 ∷ [])) ⌝ }
+{
     if answer.len() == 0 {
         return false;
     }

@@ -3,41 +3,35 @@ use native.Mathlib.Omega.{arith}
 use mathlib.Core.Path.{_≡_, refl, sym, ap, _∙_}
 use Prim.Native.Nat.{ℕ, suc, _+_, _-_, _≤_, _<_}
 use mathlib.Core.List.{List, [], _∷_, _++_}
-use lib.ListN.{length}
+use lib.ListN.{length, getD}
 use lib.Seq.{length-take-le}
+use Rattle.replay.proofs.Comparing.{same-none, other-last, same-last}
 use Rattle.replay.proofs.cases.is_answer.Statement.{statement}
 use Rattle.replay.proofs.cases.is_answer.Tie as tie
 use Rattle.replay.proofs.cases.is_answer.Reads as reads
 use Rattle.replay.proofs.cases.is_answer.Lts as lts
 use Rattle.replay.proofs.cases.is_same.Reads as is-same-reads
 
--- src/cases.rt:62:9
 returns : tie.Need-returns
-returns c = search needs
+returns c = same-none _ (c .before .before .before .args .listing .now) 10 (c .if1 .taken)
 
--- src/cases.rt:64:16
 sub-last : tie.Need-sub-last
 sub-last c = search needs
 
--- src/cases.rt:65:8
 shared-slice-read-if2 : tie.Need-shared-slice-read-if2
 shared-slice-read-if2 c = search needs
 
--- src/cases.rt:66:9
 returns-2 : tie.Need-returns-2
-returns-2 c = search needs
+returns-2 c = other-last _ (c .before .before .before .before .before .args .listing .now) 10 (c .before .before .if1 .left) (c .if2 .taken)
 
--- src/cases.rt:68:13
 slice-aggregate-is-same : tie.Need-slice-aggregate-is-same
 slice-aggregate-is-same c = let x = c .before .before .before .before .before .before .args in sym (length-take-le (length (x .answer .now) - 1) (x .answer .now) (omega arith))
 
--- src/cases.rt:68:5
 is-same-requires : tie.Need-is-same-requires
 is-same-requires c κs = search needs
 
--- src/cases.rt:60:1
 returns-3 : tie.Need-returns-3
-returns-3 c = search needs
+returns-3 c = same-last _ (c .before .before .before .before .before .before .before .args .listing .now) 10 (c .before .before .before .before .if1 .left) (c .before .before .if2 .left) (c .is-same .ensures)
 
 pub is-answer-spec : {M : Type 1} → statement M
 is-answer-spec =
