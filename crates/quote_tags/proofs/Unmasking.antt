@@ -100,9 +100,6 @@ module _ (x : List ℕ) where
 
 -- the same by place
 module _ (s : List ℕ) (i : ℕ) where
-  pub no-tag-at : eqb (getD s i 0) 91 ≡ false → NoMask (drop i s)
-  no-tag-at q = no-tag (drop i s) (λ z. eqb-false (getD s i 0) 91 q (sym (first-here s i) ∙ z))
-
   pub not-open-at : {r : Bool} {a b c : ℕ} → (r ≡ false → (x : List ℕ) → getD x 0 0 ≡ a → getD x 1 0 ≡ b → getD x 2 0 ≡ c → NoMask x)
       → a ≡ getD s i 0 → b ≡ getD s (i + 1) 0 → c ≡ getD s (i + 2) 0 → r ≡ false → NoMask (drop i s)
   not-open-at f ea eb ec q = f q (drop i s) (first-here s i ∙ sym ea) (getD-drop i s 1 0 ∙ sym eb) (getD-drop i s 2 0 ∙ sym ec)

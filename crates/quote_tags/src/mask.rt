@@ -189,28 +189,11 @@ fn may_open(a: u8, b: u8, c: u8) -> bool
     (a == b'[') & (by_c | by_n | by_i)
 }
 
-// Whether a `[` stands among the 16 bytes from i on: one comparison of all 16 where the machine has it.
-fn tag_in_16(s: &[u8], i: usize) -> bool
-    requires { ⌜ i + 16 ≤ length (now s) ⌝ }
-    ensures { λ r. ⌜ (r ≡ false → (j : ℕ) → i ≤ j → j < i + 16 → NoMask (drop j (now (s .entry)))) ⌝ }
-{
-    let mut stands = false;
-    let mut k: usize = 0;
-    while k < 16 {
-        stands = stands | (s[i + k] == b'[');
-        k += 1;
-    }
-    stands
-}
-
-// Whether a word that opens a mask may begin among the 16 bytes from i on, likewise.
+// Whether a word that opens a mask may begin among the 16 bytes from i on: a few comparisons of all 16 where the machine has them.
 fn mask_in_16(s: &[u8], i: usize) -> bool
     requires { ⌜ i + 18 ≤ length (now s) ⌝ }
     ensures { λ r. ⌜ (r ≡ false → (j : ℕ) → i ≤ j → j < i + 16 → NoMask (drop j (now (s .entry)))) ⌝ }
 {
-    if !tag_in_16(s, i) {
-        return false;
-    }
     let mut stands = false;
     let mut k: usize = 0;
     while k < 16 {

@@ -5,7 +5,6 @@ use Prim.Native.Nat.{ℕ, suc, _+_, _-_, _≤_, _<_}
 use mathlib.Core.List.{List, [], _∷_, _++_}
 use lib.ListN.{length, getD, drop}
 use mathlib.Core.Bool.{false}
-use borrow.Author.Tests.{not-true}
 use Rattle.quote_tags.specs.Masks.{NoMask}
 use Rattle.quote_tags.proofs.Places.{Between, between-turn}
 use Rattle.quote_tags.proofs.Unmasking.{not-open-at}
@@ -14,7 +13,6 @@ use Rattle.quote_tags.proofs.mask.mask_in_16.Tie as tie
 use Rattle.quote_tags.proofs.mask.mask_in_16.Reads as reads
 use Rattle.quote_tags.proofs.mask.mask_in_16.Lts as lts
 use Rattle.quote_tags.proofs.mask.may_open.Reads as may-open-reads
-use Rattle.quote_tags.proofs.mask.tag_in_16.Reads as tag-in-16-reads
 
 abbrev Inv-loop : tie.InvT-loop
 Inv-loop s i stands₀ k₀ stands k = (k ≤ 16) × (stands ≡ false → Between (λ j. NoMask (drop j s)) i (i + k))
@@ -22,72 +20,50 @@ Inv-loop s i stands₀ k₀ stands k = (k ≤ 16) × (stands ≡ false → Betwe
 abbrev μ-loop : tie.MeasureT-loop
 μ-loop s i stands₀ k₀ stands k = 16 - k
 
--- src/mask.rt:210:9
-tag-in-16-requires : tie.Need-tag-in-16-requires Inv-loop μ-loop
-tag-in-16-requires c κs = search needs
-
--- src/mask.rt:211:9
-returns : tie.Need-returns Inv-loop μ-loop
-returns c = λ _. c .before .tag-in-16 .ensures (not-true _ (c .if1 .taken))
-
--- src/mask.rt:215:5
 loop-holds : tie.Need-loop-holds Inv-loop μ-loop
 loop-holds c = (search needs, λ _ j h l. absurd (omega arith))
 
--- src/mask.rt:216:38
 add-may-open : tie.Need-add-may-open Inv-loop μ-loop
 add-may-open c = search needs
 
--- src/mask.rt:216:36
 shared-slice-read-may-open : tie.Need-shared-slice-read-may-open Inv-loop μ-loop
 shared-slice-read-may-open c = search needs
 
--- src/mask.rt:216:48
 add-may-open-2 : tie.Need-add-may-open-2 Inv-loop μ-loop
 add-may-open-2 c = search needs
 
--- src/mask.rt:216:48
 add-may-open-3 : tie.Need-add-may-open-3 Inv-loop μ-loop
 add-may-open-3 c = search needs
 
--- src/mask.rt:216:46
 shared-slice-read-may-open-2 : tie.Need-shared-slice-read-may-open-2 Inv-loop μ-loop
 shared-slice-read-may-open-2 c = search needs
 
--- src/mask.rt:216:62
 add-may-open-4 : tie.Need-add-may-open-4 Inv-loop μ-loop
 add-may-open-4 c = search needs
 
--- src/mask.rt:216:62
 add-may-open-5 : tie.Need-add-may-open-5 Inv-loop μ-loop
 add-may-open-5 c = search needs
 
--- src/mask.rt:216:60
 shared-slice-read-may-open-3 : tie.Need-shared-slice-read-may-open-3 Inv-loop μ-loop
 shared-slice-read-may-open-3 c = search needs
 
--- src/mask.rt:216:27
 may-open-requires : tie.Need-may-open-requires Inv-loop μ-loop
 may-open-requires c κs = search needs
 
--- src/mask.rt:217:9
 add-k : tie.Need-add-k Inv-loop μ-loop
 add-k c = search needs
 
--- src/mask.rt:215:5
 loop-less : tie.Need-loop-less Inv-loop μ-loop
 loop-less c = search needs
 
--- src/mask.rt:215:5
 loop-again : tie.Need-loop-again Inv-loop μ-loop
 loop-again c =
     let l = c .before .before .before .before .before .loop in
-    let a = c .before .before .before .before .before .before .before .before .before .args in
+    let a = c .before .before .before .before .before .before .before .args in
     (search needs, λ z j h g. between-turn (λ j. NoMask (drop j (a .s .now))) (a .i) (a .i + l .k) (l .stands) _ (l .inv .1) (not-open-at (a .s .now) (a .i + l .k) (c .may-open .ensures) refl refl refl) z j h (omega arith))
 
--- src/mask.rt:206:1
-returns-2 : tie.Need-returns-2 Inv-loop μ-loop
-returns-2 c = let l = c .before .loop in λ z j h g. l .inv .1 z j h (omega arith)
+returns : tie.Need-returns Inv-loop μ-loop
+returns c = let l = c .before .loop in λ z j h g. l .inv .1 z j h (omega arith)
 
 pub mask-in-16-spec : {M : Type 1} → statement M
 mask-in-16-spec =
@@ -95,8 +71,6 @@ mask-in-16-spec =
     (tie.spec
     Inv-loop
     μ-loop
-    tag-in-16-requires
-    returns
     loop-holds
     add-may-open
     shared-slice-read-may-open
@@ -110,4 +84,4 @@ mask-in-16-spec =
     add-k
     loop-less
     loop-again
-    returns-2)
+    returns)
