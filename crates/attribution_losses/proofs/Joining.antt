@@ -6,8 +6,8 @@ use Prim.Native.Nat.{ℕ, zero, suc, _+_, _-_, _*_, _≤_, _<_}
 use native.Mathlib.Nat.{add-sub-cancel-left}
 use native.Mathlib.Omega.{arith}
 use lib.Dec.{eqb, ltb}
-use lib.ListN.{length, take, drop, getD, drop-of-length-le, length-drop}
-use lib.Seq.{take-take, drop-drop, getD-take, take-nil}
+use lib.ListN.{length, take, drop, getD, drop-of-length-le}
+use lib.Seq.{take-take, drop-drop, getD-take}
 use borrow.Author.Tests.{eq-eqb, ne-eqb, lt-ltb, le-ltb}
 use Rattle.text.specs.Ascii.{isEmpty}
 use Rattle.attribution_reading.specs.declared.scan.Place.{Place}
@@ -15,13 +15,13 @@ use Rattle.attribution_parts.specs.declared.Kind.the-variants.{Name}
 use Rattle.attribution_reading.specs.declared.facts.Field.{Field}
 use Rattle.attribution_reading.specs.declared.facts.Lead.{Lead}
 use Rattle.attribution_parts.specs.Parts.{Part, parts}
-use Rattle.attribution_parts.specs.Attribution.{spaced, joined, wordsOf, textsOf, texts, leading, fieldOf}
+use Rattle.attribution_parts.specs.Attribution.{spaced, joined, wordsOf, textsOf, texts, leading, fieldOf, counts}
 use Rattle.attribution_reading.specs.Places.{bytes, partOf, Stands, Scanned}
 use Rattle.attribution_reading.specs.Reads.{FieldAt, LeadAt}
 use Rattle.attribution_losses.specs.Captions.{added, nameTexts}
 use Rattle.attribution_losses.specs.Lists.{Puts}
 use Rattle.attribution_reading.proofs.Laws.{scan-on}
-use Rattle.attribution_reading.proofs.Fielding.{length-bytes}
+use Rattle.attribution_reading.proofs.Fielding.{length-bytes, counts-sized, Found, nothing, found-lead, found-passed, found-here, found-all}
 use Rattle.attribution_reading.proofs.Texts.{texts-more, words-text, words-field, drop-take}
 use Rattle.attribution_losses.proofs.Listing.{puts-none, puts-then, puts-as}
 use Rattle.attribution_losses.proofs.Losing.{empty-is}
@@ -77,19 +77,42 @@ added-more s from size start at le n h = rw (lt-ltb start at h) (by (bytes s fro
     by [] e = absurd (n (sym e))
     by (b ∷ w) e = refl
 
+-- ---- the joined texts make the name where there is no name field
+
+no-texts : (s : List ℕ) (f : Field) → FieldAt s Name f → (f .size ≡ 0 → ⊥) → [] ≡ nameTexts s
+unfolding nameTexts
+no-texts s f h n = let y : isEmpty (fieldOf Name (parts 0 s)) ≡ false = sym (empty-is s Name f h) ∙ ne-eqb (f .size) 0 n in rw y
+
+all-texts : (s : List ℕ) (f : Field) → FieldAt s Name f → f .size ≡ 0 → textsOf (drop (leading (parts 0 s)) (parts 0 s)) ≡ nameTexts s
+unfolding nameTexts texts
+all-texts s f h z = let y : isEmpty (fieldOf Name (parts 0 s)) ≡ true = sym (empty-is s Name f h) ∙ rw z in rw y
+
+-- what has been put does not count
+puts-back : {v v' t : List ℕ} {at at' : ℕ} → Puts v at v' at' t → Puts v at v' at []
+puts-back q = record { size = q .size; end = omega arith; keeps = q .keeps; text = λ _. rw append-nil (q .keeps) }
+
 -- ---- joining part by part
 
-pub record Joining (v : List ℕ) (a n count at : ℕ) (v' : List ℕ) (pos to : ℕ) : Type 0 where
+pub record Joining (v : List ℕ) (a n at : ℕ) (v' : List ℕ) (pos to : ℕ) : Type 0 where
   pub index : ℕ
   pub stands : Stands (bytes v a n) index pos
+  pub unnamed : Found (bytes v a n) Name index pos nothing
   pub read : List Part
-  pub all : read ++ parts 0 (drop pos (bytes v a n)) ≡ drop count (parts 0 (bytes v a n))
+  pub all : read ++ parts 0 (drop pos (bytes v a n)) ≡ drop (leading (parts 0 (bytes v a n))) (parts 0 (bytes v a n))
   pub puts : Puts v at v' to (textsOf read)
   pub small : to ≤ at + 2 * pos
 
-pub join-start : (v : List ℕ) (a n count at first : ℕ) → Stands (bytes v a n) count first → Joining v a n count at v first at
+pub join-start : (v : List ℕ) (a n at : ℕ) (l : Lead) → LeadAt (bytes v a n) l → Joining v a n at v (l .next) at
 unfolding textsOf joined
-join-start v a n count at first st = record { index = count; stands = st; read = []; all = sym (st .rest); puts = puts-none v at; small = omega arith }
+join-start v a n at l h = record {
+  index = l .count;
+  stands = h .stands;
+  unnamed = found-lead (bytes v a n) Name l h;
+  read = [];
+  all = sym (h .stands .rest) ∙ ap (λ (i : ℕ). drop i (parts 0 (bytes v a n))) (h .count);
+  puts = puts-none v at;
+  small = omega arith;
+}
 
 words-by : (s : List ℕ) (p : Place) → wordsOf (partOf s p) ≡ cond (eqb (p .keylen) 0) (bytes s (p .from) (p .size)) []
 words-by s p = by (p .keylen) refl
@@ -108,9 +131,9 @@ cond-len : (t : Bool) (w : List ℕ) (n : ℕ) → length w ≡ n → length (co
 cond-len true w n e = omega (arith, e)
 cond-len false w n e = omega arith
 
-module _ (v : List ℕ) (a n count at : ℕ) (v' : List ℕ) (pos to : ℕ) (j : Joining v a n count at v' pos to) (le : a + n ≤ at) (ins : a + n ≤ length v) where
+module _ (v : List ℕ) (a n at : ℕ) (v' : List ℕ) (pos to : ℕ) (j : Joining v a n at v' pos to) (le : a + n ≤ at) (ins : a + n ≤ length v) where
   -- the attribution is still there
-  pub slice-kept : bytes v' a n ≡ bytes v a n
+  slice-kept : bytes v' a n ≡ bytes v a n
   slice-kept = bytes-kept v v' at a n (j .puts .keeps) le
 
   slice-length : length (bytes v a n) ≡ n
@@ -126,8 +149,19 @@ module _ (v : List ℕ) (a n count at : ℕ) (v' : List ℕ) (pos to : ℕ) (j :
     pub join-room : (p .from + p .size ≤ n) × ((pos < p .next) × ((p .next ≤ n) × (p .size + pos ≤ p .next)))
     join-room = let m = slice-length in (omega (arith, m, sc .ends, sc .inside), (sc .grows, (omega (arith, m, sc .inside), omega (arith, sc .starts, sc .ends))))
 
-    pub join-turn : (v₁ : List ℕ) (r : ℕ) → Puts v' to v₁ r (added (ltb at to) (cond (eqb (p .keylen) 0) (bytes v' (a + p .from) (p .size)) [])) → Joining v a n count at v₁ (p .next) r
-    join-turn v₁ r q =
+    same-part : partOf (bytes v' a n) p ≡ partOf (bytes v a n) p
+    same-part = rw slice-kept
+
+    -- with a name field nothing is joined
+    pub join-named : counts Name (partOf (bytes v' a n) p) ≡ true → Puts v at v' at (nameTexts (bytes v a n))
+    join-named h =
+        let t : counts Name (partOf (bytes v a n) p) ≡ true = rw (← same-part) h in
+        let w = counts-sized Name sc t in
+        let f = found-here (bytes v a n) Name (j .index) pos p nothing (j .stands) sc (j .unnamed) t in
+        puts-as (no-texts (bytes v a n) _ (f .yes (λ z. omega arith)) (λ z. omega arith)) (puts-back (j .puts))
+
+    pub join-turn : (v₁ : List ℕ) (r : ℕ) → counts Name (partOf (bytes v' a n) p) ≡ false → Puts v' to v₁ r (added (ltb at to) (cond (eqb (p .keylen) 0) (bytes v' (a + p .from) (p .size)) [])) → Joining v a n at v₁ (p .next) r
+    join-turn v₁ r o q =
         let s = bytes v a n in
         let w : cond (eqb (p .keylen) 0) (bytes v' (a + p .from) (p .size)) [] ≡ wordsOf (partOf s p) =
         ap (λ (x : List ℕ). cond (eqb (p .keylen) 0) x []) (sym (bytes-bytes v' a n (p .from) (p .size) (join-room .0)) ∙ ap (λ (x : List ℕ). bytes x (p .from) (p .size)) slice-kept) ∙ sym (words-by s p) in
@@ -140,28 +174,20 @@ module _ (v : List ℕ) (a n count at : ℕ) (v' : List ℕ) (pos to : ℕ) (j :
         record {
           index = j .index + 1;
           stands = scan-on s (j .index) pos p (j .stands) sc;
+          unnamed = found-passed s Name (j .index) pos p nothing (j .stands) sc (j .unnamed) (rw (← same-part) o);
           read = j .read ++ (partOf s p ∷ []);
           all = append-assoc (j .read) (partOf s p ∷ []) (parts 0 (drop (p .next) s)) ∙ rw (← sc .part) (j .all);
           puts = puts-as z (puts-then (j .puts) q);
           small = omega (arith, q .end, j .small, u, y, sc .grows, sc .starts, sc .ends);
         }
 
-  pub join-end : n ≤ pos → Puts v at v' to (textsOf (drop count (parts 0 (bytes v a n))))
+  pub join-end : n ≤ pos → Puts v at v' to (nameTexts (bytes v a n))
   unfolding parts
   join-end h =
       let m = slice-length in
       let d : parts 0 (drop pos (bytes v a n)) ≡ [] = rw (drop-of-length-le (bytes v a n) {i = pos} (omega (arith, m))) in
-      puts-as (ap textsOf (sym (append-nil (j .read)) ∙ ap (λ (x : List Part). j .read ++ x) (sym d) ∙ j .all)) (j .puts)
-
--- ---- with a name field nothing is joined
-
-pub no-texts : (s : List ℕ) (f : Field) → FieldAt s Name f → (f .size ≡ 0 → ⊥) → [] ≡ nameTexts s
-unfolding nameTexts
-no-texts s f h n = let y : isEmpty (fieldOf Name (parts 0 s)) ≡ false = sym (empty-is s Name f h) ∙ ne-eqb (f .size) 0 n in rw y
-
-pub all-texts : (s : List ℕ) (f : Field) (d : Lead) → FieldAt s Name f → f .size ≡ 0 → LeadAt s d → textsOf (drop (d .count) (parts 0 s)) ≡ nameTexts s
-unfolding nameTexts texts
-all-texts s f d h z l = let y : isEmpty (fieldOf Name (parts 0 s)) ≡ true = sym (empty-is s Name f h) ∙ rw z in rw (y, l .count)
+      let f = found-all (bytes v a n) Name (j .index) pos nothing (j .stands) (omega (arith, m)) (j .unnamed) in
+      puts-as (ap textsOf (sym (append-nil (j .read)) ∙ ap (λ (x : List Part). j .read ++ x) (sym d) ∙ j .all) ∙ all-texts (bytes v a n) _ f refl) (j .puts)
 
 -- ---- what one part puts
 

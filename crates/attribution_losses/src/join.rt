@@ -1,17 +1,16 @@
 // The joined texts, where they make the name: written behind the attribution in one slice.
 use crate::loss::put_byte;
+use attribution_parts::Kind;
+use attribution_reading::facts::counts_as;
 use attribution_reading::facts::leading_id;
-use attribution_reading::facts::read_fields;
 use attribution_reading::reader::read_part;
 ghost use mathlib.Core.Path.{_≡_};
 ghost use mathlib.Core.Bool.{cond};
 ghost use mathlib.Core.List.{[]};
 ghost use Prim.Native.Nat.{_+_, _-_, _*_, _≤_, _<_};
 ghost use lib.Dec.{eqb, ltb};
-ghost use lib.ListN.{length, drop};
-ghost use Rattle.attribution_parts.specs.Parts.{parts};
-ghost use Rattle.attribution_parts.specs.Attribution.{textsOf};
-ghost use Rattle.attribution_reading.specs.Places.{bytes, Stands};
+ghost use lib.ListN.{length};
+ghost use Rattle.attribution_reading.specs.Places.{bytes};
 ghost use Rattle.attribution_losses.specs.Captions.{added, nameTexts};
 ghost use Rattle.attribution_losses.specs.Lists.{Puts};
 
@@ -55,32 +54,22 @@ fn put_more(
     at
 }
 
-// Joins the texts from the part that begins at `first` on.
-fn join_from(work: &mut [u8], a: usize, e: usize, first: usize, count: usize, at: usize) -> usize
-    requires { ⌜ ((a ≤ e) × ((e ≤ at) × (e ≤ length (now work)))) × ((at + 2 * (e - a) < 4294967296) × Stands (bytes (now work) a (e - a)) count first) ⌝ }
-    ensures { λ r. ⌜ Puts (now (work .entry)) at (now (work .exit)) r (textsOf (drop count (parts 0 (bytes (now (work .entry)) a (e - a))))) ⌝ }
-{
-    let mut pos = first;
-    let mut to = at;
-    while pos < e - a {
-        let p = read_part(&work[a..e], pos);
-        to = put_more(work, p.keylen, a + p.from, p.size, at, to);
-        pos = p.next;
-    }
-    to
-}
-
-// Joins the texts of the attribution that stands from a up to e, where there is no name field, from `at` on. A place past the end says
-// that they did not fit.
+// Joins the texts of the attribution that stands from a up to e, from `at` on; none where a name field stands among them. A place past the
+// end says that they did not fit.
 pub fn join_texts(work: &mut [u8], a: usize, e: usize, at: usize) -> usize
     requires { ⌜ ((a ≤ e) × ((e ≤ at) × (e ≤ length (now work)))) × (at + 2 * (e - a) < 4294967296) ⌝ }
     ensures { λ r. ⌜ Puts (now (work .entry)) at (now (work .exit)) r (nameTexts (bytes (now (work .entry)) a (e - a))) ⌝ }
 {
-    let fields = read_fields(&work[a..e]);
-    let name = fields.name;
-    if name.size != 0 {
-        return at;
-    }
     let lead = leading_id(&work[a..e]);
-    join_from(work, a, e, lead.next, lead.count, at)
+    let mut pos = lead.next;
+    let mut to = at;
+    while pos < e - a {
+        let p = read_part(&work[a..e], pos);
+        if counts_as(&work[a..e], p, Kind::Name) {
+            return at;
+        }
+        to = put_more(work, p.keylen, a + p.from, p.size, at, to);
+        pos = p.next;
+    }
+    to
 }

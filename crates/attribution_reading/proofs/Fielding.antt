@@ -15,11 +15,12 @@ use Rattle.attribution_parts.specs.declared.Kind.{Kind}
 use Rattle.attribution_parts.specs.declared.Kind.the-variants.{Name, PostId, Id, Date, Time}
 use Rattle.attribution_reading.specs.declared.facts.Field.{Field}
 use Rattle.attribution_reading.specs.declared.facts.Fields.{Fields}
+use Rattle.attribution_reading.specs.declared.facts.Lead.{Lead}
 use Rattle.attribution_reading.specs.declared.scan.Place.{Place}
 use Rattle.attribution_parts.specs.Parts.{Part, field, text, parts}
-use Rattle.attribution_parts.specs.Attribution.{isKind, isUsable, counts, first, fieldOf, valueOf, partNo}
+use Rattle.attribution_parts.specs.Attribution.{isKind, isUsable, counts, first, fieldOf, valueOf, partNo, leading}
 use Rattle.attribution_reading.specs.Places.{bytes, partOf, partWith, Stands, Scanned}
-use Rattle.attribution_reading.specs.Reads.{FieldAt, FieldsAt}
+use Rattle.attribution_reading.specs.Reads.{FieldAt, FieldsAt, LeadAt}
 use Rattle.attribution_reading.proofs.Laws.{scan-on}
 
 -- ---- words and values
@@ -106,6 +107,13 @@ counts-some : (k : Kind) (q : Part) → counts k q ≡ true → 0 < length (valu
 counts-some k (field key v) h = usable-some k v (and-right (isKind k key) (isUsable k v) h)
 counts-some k (text w quoted) h = absurd (true≢false (sym h))
 
+pub counts-sized : {s : List ℕ} {at : ℕ} {p : Place} (k : Kind) → Scanned s at p → counts k (partOf s p) ≡ true → 0 < p .size
+counts-sized {s} {at} {p} k sc h =
+    let v = value-of s p in
+    let n = length-bytes s (p .from) (p .size) (omega (arith, sc .ends, sc .inside)) in
+    let m = counts-some k (partOf s p) h in
+    omega (arith, ap length v, n, m)
+
 pub keeps-inside : {s : List ℕ} {at : ℕ} {p : Place} → Scanned s at p → (p .key + p .keylen ≤ length s) × (p .from + p .size ≤ length s)
 keeps-inside sc = (omega (arith, sc .key-ends, sc .inside), omega (arith, sc .ends, sc .inside))
 
@@ -120,7 +128,7 @@ pub record Found (s : List ℕ) (k : Kind) (i at : ℕ) (f : Field) : Type 0 whe
   pub no : f .size ≡ 0 → first k (parts 0 s) ≡ i + first k (parts 0 (drop at s))
   pub yes : (f .size ≡ 0 → ⊥) → FieldAt s k f
 
-abbrev nothing : Field
+abbrev pub nothing : Field
 nothing = record { from = 0; size = 0; index = 0 }
 
 found-first : (s : List ℕ) (k : Kind) (at : ℕ) → Stands s 0 at → Found s k 0 at nothing
@@ -129,12 +137,26 @@ found-first s k at st = record { inside = omega arith; no = λ _. ap (first k) (
     zero-plus : (n : ℕ) → 0 + n ≡ n
     zero-plus n = omega arith
 
+-- a leading id is no field
+pub found-lead : (s : List ℕ) (k : Kind) (l : Lead) → LeadAt s l → Found s k (l .count) (l .next) nothing
+unfolding first leading
+found-lead s k l h = record { inside = omega arith; no = λ _. rw (← h .stands .rest, h .count) (by (parts 0 s)); yes = λ n. absurd (n refl) }
+  where
+    by : (ps : List Part) → first k ps ≡ leading ps + first k (drop (leading ps) ps)
+    by [] = refl
+    by (field key v ∷ ps) = omega arith
+    by (text w quoted ∷ ps) = on (quoted && digits w)
+      where
+        on : (t : Bool) → suc (first k ps) ≡ cond t 1 0 + first k (drop (cond t 1 0) (text w quoted ∷ ps))
+        on true = omega arith
+        on false = omega arith
+
 module _ (s : List ℕ) (k : Kind) (i at : ℕ) (p : Place) (f : Field) (st : Stands s i at) (sc : Scanned s at p) (d : Found s k i at f) where
-  found-passed : counts k (partOf s p) ≡ false → Found s k (i + 1) (p .next) f
+  pub found-passed : counts k (partOf s p) ≡ false → Found s k (i + 1) (p .next) f
   unfolding first
   found-passed h = record { inside = d .inside; no = λ z. d .no z ∙ rw (sc .part, h) (omega arith); yes = d .yes }
 
-  found-here : counts k (partOf s p) ≡ true → Found s k (i + 1) (p .next) (cond (eqb (f .size) 0) (record { from = p .from; size = p .size; index = i }) f)
+  pub found-here : counts k (partOf s p) ≡ true → Found s k (i + 1) (p .next) (cond (eqb (f .size) 0) (record { from = p .from; size = p .size; index = i }) f)
   unfolding first fieldOf
   found-here h = elim (ℕ-discrete (f .size) 0) [ yes z ↦ rw (eq-eqb (f .size) 0 z) (new z) | no n ↦ rw (ne-eqb (f .size) 0 n) (old n) ]
     where
@@ -144,22 +166,19 @@ module _ (s : List ℕ) (k : Kind) (i at : ℕ) (p : Place) (f : Field) (st : St
       new : f .size ≡ 0 → Found s k (i + 1) (p .next) (record { from = p .from; size = p .size; index = i })
       new z =
           let e : first k (parts 0 s) ≡ i = d .no z ∙ rw (sc .part, h) (add-zero i) in
-          let v = value-of s p in
-          let n = length-bytes s (p .from) (p .size) (omega (arith, sc .ends, sc .inside)) in
-          let m = counts-some k (partOf s p) h in
-          let w : 0 < p .size = omega (arith, ap length v, n, m) in
+          let w = counts-sized k sc h in
           record {
             inside = omega (arith, sc .ends, sc .inside);
             no = λ o. absurd (omega arith);
             yes = λ _. record {
-              words = sym (rw (e, part-no i (parts 0 s) (partOf s p) (parts 0 (drop (p .next) s)) (st .rest ∙ sc .part)) v);
+              words = sym (rw (e, part-no i (parts 0 s) (partOf s p) (parts 0 (drop (p .next) s)) (st .rest ∙ sc .part)) (value-of s p));
               inside = omega (arith, sc .ends, sc .inside);
               here = λ j lt. rw (lt-ltb 0 (p .size) w, e);
             };
           }
 
 -- behind the last part
-found-all : (s : List ℕ) (k : Kind) (i at : ℕ) (f : Field) → Stands s i at → length s ≤ at → Found s k i at f → FieldAt s k f
+pub found-all : (s : List ℕ) (k : Kind) (i at : ℕ) (f : Field) → Stands s i at → length s ≤ at → Found s k i at f → FieldAt s k f
 unfolding first fieldOf bytes parts
 found-all s k i at f st le d = elim (ℕ-discrete (f .size) 0) [ yes z ↦ none z | no n ↦ d .yes n ]
   where

@@ -1,6 +1,6 @@
 -- Laws of values and parts at a place. Assumes nothing.
 use mathlib.Core.Path.{_≡_, refl, sym, ap, _∙_}
-use mathlib.Core.Bool.{Bool, true, false, cond, not, _&&_, _||_}
+use mathlib.Core.Bool.{Bool, true, false, cond, not, _&&_, _||_, true≢false}
 use mathlib.Core.List.{List, [], _∷_, _++_, append-assoc, append-nil, nil≢cons}
 use Prim.Native.Nat.{ℕ, zero, suc, _+_, _-_, _*_, _≤_, _<_}
 use native.Mathlib.Nat.{add-sub-cancel-left, add-zero}
@@ -9,9 +9,9 @@ use native.Mathlib.Omega.{arith}
 use lib.Dec.{eqb, ltb}
 use lib.ListN.{length, take, drop, getD, drop-of-length-le, length-drop, List·getD-eq-default}
 use lib.Seq.{drop-cons, drop-drop, getD-drop}
-use borrow.Author.Tests.{eq-eqb, ne-eqb, lt-ltb, le-ltb, not-true}
-use Rattle.text.specs.Ascii.{toFirst}
-use Rattle.text.proofs.Bytes.{first-stops}
+use borrow.Author.Tests.{eq-eqb, ne-eqb, eqb-true, lt-ltb, le-ltb, not-true}
+use Rattle.text.specs.Ascii.{inside, toFirst}
+use Rattle.text.proofs.Bytes.{first-stops, first-past}
 use Rattle.attribution_reading.specs.declared.scan.Value.{Value}
 use Rattle.attribution_reading.specs.declared.scan.Place.{Place}
 use Rattle.attribution_parts.specs.Parts.{Part, field, text, isSpace, isQuote, inQuotes, value, valueSize, startsKey, inKey, keySize, partAt, partSize, readAt, sizeAt, parts, here, more}
@@ -90,6 +90,48 @@ some-key s at end e p q = rw (key-first s at, e, getD-drop at s (toFirst noKey (
 starts-more : (s : List ℕ) (at : ℕ) → at < length s → startsKey (getD s at 0) ≡ true → toFirst noKey (drop at s) ≡ suc (toFirst noKey (drop (suc at) s))
 unfolding toFirst
 starts-more s at lt e = rw (drop-cons s at 0 lt, e)
+
+-- ---- a key's bytes are of the run that it begins
+
+either : {P : Type 0} (a b : Bool) → (a ≡ true → P) → (b ≡ true → P) → (a || b) ≡ true → P
+either true b f g h = f refl
+either false b f g h = g h
+
+space-no-key : (b : ℕ) → isSpace b ≡ true → noKey b ≡ true
+unfolding inside
+space-no-key b = either _ _ (either _ _ (either _ _ (either _ _ (is 32 refl) (is 9 refl)) (is 10 refl)) (is 13 refl)) (is 12 refl)
+  where
+    is : (x : ℕ) → noKey x ≡ true → eqb b x ≡ true → noKey b ≡ true
+    is x h e = rw (eqb-true b x e) h
+
+first-earlier : (p q : ℕ → Bool) (s : List ℕ) → ((b : ℕ) → q b ≡ true → p b ≡ true) → toFirst p s ≤ toFirst q s
+unfolding toFirst
+first-earlier p q [] h = omega arith
+first-earlier p q (b ∷ s) h = by (p b) (q b) (h b) (first-earlier p q s h)
+  where
+    by : (t u : Bool) → (u ≡ true → t ≡ true) → toFirst p s ≤ toFirst q s → cond t 0 (suc (toFirst p s)) ≤ cond u 0 (suc (toFirst q s))
+    by true u f r = omega arith
+    by false true f r = absurd (true≢false (sym (f refl)))
+    by false false f r = omega arith
+
+pub key-run : (s : List ℕ) (at end : ℕ) → end ≡ at + toFirst noKey (drop at s) → end + toFirst isSpace (drop end s) ≡ at + toFirst isSpace (drop at s)
+key-run s at end p =
+    let n = toFirst noKey (drop at s) in
+    let e = first-past isSpace (drop at s) n (first-earlier noKey isSpace (drop at s) space-no-key) in
+    let d : drop n (drop at s) ≡ drop end s = drop-drop n at s ∙ ap (λ (x : ℕ). drop x s) (sym p) in
+    let f : n + toFirst isSpace (drop end s) ≡ toFirst isSpace (drop at s) = rw (← d) e in
+    omega arith
+
+pub key-unquoted : (s : List ℕ) (at : ℕ) → at < length s → startsKey (getD s at 0) ≡ true → inQuotes (drop at s) ≡ false
+unfolding inside
+key-unquoted s at lt h = other-unquoted s at lt (by (getD s at 0) (isQuote (getD s at 0)) refl h)
+  where
+    is : (b x : ℕ) → startsKey x ≡ false → eqb b x ≡ true → startsKey b ≡ true → ⊥
+    is b x f e h = true≢false (sym (rw (eqb-true b x e) at h) ∙ f)
+
+    by : (b : ℕ) (t : Bool) → isQuote b ≡ t → startsKey b ≡ true → t ≡ false
+    by b true e h = absurd (either _ _ (λ i. is b 34 refl i h) (λ i. is b 39 refl i h) e)
+    by b false e h = refl
 
 -- ---- parts
 

@@ -112,7 +112,7 @@ fn is_usable(k: Kind, value: &[u8]) -> bool
 }
 
 // Whether a part is a usable field of a kind.
-fn counts_as(s: &[u8], p: Place, k: Kind) -> bool
+pub fn counts_as(s: &[u8], p: Place, k: Kind) -> bool
     requires { ⌜ (p .key + p .keylen ≤ length (now s)) × (p .from + p .size ≤ length (now s)) ⌝ }
     ensures { λ r. ⌜ r ≡ counts k (partOf (now (s .entry)) p) ⌝ }
 {

@@ -117,12 +117,12 @@ fn skip_spaces(s: &[u8], at: usize) -> usize
     i
 }
 
-// The run at `at`.
-fn run_value(s: &[u8], at: usize) -> Value
-    requires { ⌜ at ≤ length (now s) ⌝ }
+// The run at `at`, of which no byte before `past` is a space.
+fn run_value(s: &[u8], at: usize, past: usize) -> Value
+    requires { ⌜ (at ≤ past) × ((past ≤ length (now s)) × (past + toFirst isSpace (drop past (now s)) ≡ at + toFirst isSpace (drop at (now s)))) ⌝ }
     ensures { λ r. ⌜ RunAt (now (s .entry)) at r ⌝ }
 {
-    let end = run_end(s, at);
+    let end = run_end(s, past);
     Value {
         from: at,
         size: end - at,
@@ -147,11 +147,11 @@ fn value_at(s: &[u8], at: usize) -> Value
                     next: close + 1,
                 };
             }
-            return run_value(s, at);
+            return run_value(s, at, at);
         }
-        return run_value(s, at);
+        return run_value(s, at, at);
     }
-    run_value(s, at)
+    run_value(s, at, at)
 }
 
 // The part at `at`, where a byte stands that is no space.
@@ -172,7 +172,7 @@ pub fn part_at(s: &[u8], at: usize) -> Place
                     next: v.next,
                 };
             }
-            let v = value_at(s, at);
+            let v = run_value(s, at, end);
             return Place {
                 key: at,
                 keylen: 0,
@@ -181,7 +181,7 @@ pub fn part_at(s: &[u8], at: usize) -> Place
                 next: v.next,
             };
         }
-        let v = value_at(s, at);
+        let v = run_value(s, at, end);
         return Place {
             key: at,
             keylen: 0,

@@ -4,73 +4,122 @@ use mathlib.Core.Path.{_≡_, refl, sym, ap, _∙_}
 use Prim.Native.Nat.{ℕ, suc, _+_, _-_, _≤_, _<_}
 use mathlib.Core.List.{List, [], _∷_, _++_}
 use lib.ListN.{length, getD}
-use Rattle.attribution_losses.proofs.Joining.{no-texts, all-texts}
-use Rattle.attribution_losses.proofs.Listing.{puts-none, puts-as}
 use Rattle.attribution_reading.specs.Places.{bytes}
+use Rattle.attribution_reading.proofs.Fielding.{keeps-inside}
+use Rattle.attribution_losses.proofs.Joining.{Joining, join-start, join-begins, join-room, join-named, join-turn, join-end}
 use Rattle.attribution_losses.proofs.join.join_texts.Statement.{statement}
 use Rattle.attribution_losses.proofs.join.join_texts.Tie as tie
 use Rattle.attribution_losses.proofs.join.join_texts.Reads as reads
 use Rattle.attribution_losses.proofs.join.join_texts.Lts as lts
+use Rattle.attribution_losses.proofs.join.put_more.Reads as put-more-reads
+use Rattle.attribution_reading.proofs.facts.counts_as.Reads as counts-as-reads
 use Rattle.attribution_reading.proofs.facts.leading_id.Reads as leading-id-reads
-use Rattle.attribution_reading.proofs.facts.read_fields.Reads as read-fields-reads
-use Rattle.attribution_losses.proofs.join.join_from.Reads as join-from-reads
+use Rattle.attribution_reading.proofs.reader.read_part.Reads as read-part-reads
 
-sub-read-fields : tie.Need-sub-read-fields
-sub-read-fields c = search needs
+abbrev Inv-loop : tie.InvT-loop
+Inv-loop work₀ a e at pos₀ to₀ work pos to = Joining work₀ a (e - a) at work pos to
 
-part-read-fields-start : tie.Need-part-read-fields-start
-part-read-fields-start c = search needs
+abbrev μ-loop : tie.MeasureT-loop
+μ-loop work₀ a e at pos₀ to₀ work pos to = e - a - pos
 
-part-read-fields-end : tie.Need-part-read-fields-end
-part-read-fields-end c = search needs
-
-read-fields-requires : tie.Need-read-fields-requires
-read-fields-requires c κs = search needs
-
-same-length : tie.Need-same-length
-same-length c = search needs
-
-returns : tie.Need-returns
-unfolding bytes
-returns c = let x = c .before .before .before .before .before .before .before .args in puts-as (no-texts (bytes (x .work .now) (x .a) (x .e - x .a)) _ (c .before .before .before .read-fields .ensures .name) (c .if1 .taken)) (puts-none (x .work .now) (x .at))
-
-sub-leading-id : tie.Need-sub-leading-id
+sub-leading-id : tie.Need-sub-leading-id Inv-loop μ-loop
 sub-leading-id c = search needs
 
-part-leading-id-start : tie.Need-part-leading-id-start
+part-leading-id-start : tie.Need-part-leading-id-start Inv-loop μ-loop
 part-leading-id-start c = search needs
 
-part-leading-id-end : tie.Need-part-leading-id-end
+part-leading-id-end : tie.Need-part-leading-id-end Inv-loop μ-loop
 part-leading-id-end c = search needs
 
-leading-id-requires : tie.Need-leading-id-requires
+leading-id-requires : tie.Need-leading-id-requires Inv-loop μ-loop
 leading-id-requires c κs = search needs
 
-join-from-requires : tie.Need-join-from-requires
+loop-holds : tie.Need-loop-holds Inv-loop μ-loop
 unfolding bytes
-join-from-requires c κs = let pre = c .before .before .before .before .before .before .before .before .before .before .before .pre in (pre .0, (pre .1, c .before .leading-id .ensures .stands))
+loop-holds c = let x = c .before .before .before .before .args in join-start (x .work .now) (x .a) (x .e - x .a) (x .at) _ (c .leading-id .ensures)
 
-same-length-2 : tie.Need-same-length-2
-same-length-2 c = search needs
+sub-loop : tie.Need-sub-loop Inv-loop μ-loop
+sub-loop c = search needs
 
-returns-2 : tie.Need-returns-2
+sub-read-part : tie.Need-sub-read-part Inv-loop μ-loop
+sub-read-part c = search needs
+
+part-read-part-start : tie.Need-part-read-part-start Inv-loop μ-loop
+part-read-part-start c = search needs
+
+part-read-part-end : tie.Need-part-read-part-end Inv-loop μ-loop
+part-read-part-end c = let l = c .before .before .loop .inv in let pre = c .before .before .before .before .before .before .before .pre in omega (arith, l .puts .size, pre .0 .1 .1)
+
+read-part-requires : tie.Need-read-part-requires Inv-loop μ-loop
 unfolding bytes
-returns-2 c = let x = c .before .before .before .before .before .before .before .before .before .before .before .before .before .before .args in puts-as (all-texts (bytes (x .work .now) (x .a) (x .e - x .a)) _ _ (c .before .before .before .before .before .before .before .before .before .before .read-fields .ensures .name) (c .before .before .before .before .before .before .before .if1 .left) (c .before .before .before .before .leading-id .ensures)) (c .before .before .join-from .ensures)
+read-part-requires c κs = let x = c .before .before .before .before .before .before .before .before .args in let l = c .before .before .before .loop .inv in let pre = c .before .before .before .before .before .before .before .before .pre in let b = join-begins (x .work .now) (x .a) (x .e - x .a) (x .at) _ _ _ l (omega (arith, pre .0 .0, pre .0 .1 .0)) (omega (arith, pre .0 .0, pre .0 .1 .1)) (c .before .before .loop-test .taken) in (b .0, b .1 .begins (b .0))
+
+sub-counts-as : tie.Need-sub-counts-as Inv-loop μ-loop
+sub-counts-as c = search needs
+
+part-counts-as-start : tie.Need-part-counts-as-start Inv-loop μ-loop
+part-counts-as-start c = search needs
+
+part-counts-as-end : tie.Need-part-counts-as-end Inv-loop μ-loop
+part-counts-as-end c = let l = c .before .before .before .before .before .loop .inv in let pre = c .before .before .before .before .before .before .before .before .before .before .pre in omega (arith, l .puts .size, pre .0 .1 .1)
+
+counts-as-requires : tie.Need-counts-as-requires Inv-loop μ-loop
+counts-as-requires c κs = keeps-inside (c .before .before .read-part .ensures)
+
+same-length : tie.Need-same-length Inv-loop μ-loop
+same-length c = c .before .before .before .before .before .before .before .before .loop .inv .puts .size
+
+returns : tie.Need-returns Inv-loop μ-loop
+unfolding bytes
+returns c = let x = c .before .before .before .before .before .before .before .before .before .before .before .before .before .args in let l = c .before .before .before .before .before .before .before .before .loop .inv in let pre = c .before .before .before .before .before .before .before .before .before .before .before .before .before .pre in join-named (x .work .now) (x .a) (x .e - x .a) (x .at) _ _ _ l (omega (arith, pre .0 .0, pre .0 .1 .0)) (omega (arith, pre .0 .0, pre .0 .1 .1)) _ (c .before .before .before .before .read-part .ensures) (sym (c .before .counts-as .ensures) ∙ c .if1 .taken)
+
+add-put-more : tie.Need-add-put-more Inv-loop μ-loop
+unfolding bytes
+add-put-more c = let x = c .before .before .before .before .before .before .before .before .before .before .before .before .before .before .before .args in let l = c .before .before .before .before .before .before .before .before .before .before .loop .inv in let pre = c .before .before .before .before .before .before .before .before .before .before .before .before .before .before .before .pre in let r = join-room (x .work .now) (x .a) (x .e - x .a) (x .at) _ _ _ l (omega (arith, pre .0 .0, pre .0 .1 .0)) (omega (arith, pre .0 .0, pre .0 .1 .1)) _ (c .before .before .before .before .before .before .read-part .ensures) in omega (arith, r .0, pre .0 .0)
+
+put-more-requires : tie.Need-put-more-requires Inv-loop μ-loop
+unfolding bytes
+put-more-requires c κs = let x = c .before .before .before .before .before .before .before .before .before .before .before .before .before .before .before .args in let l = c .before .before .before .before .before .before .before .before .before .before .loop .inv in let pre = c .before .before .before .before .before .before .before .before .before .before .before .before .before .before .before .pre in let r = join-room (x .work .now) (x .a) (x .e - x .a) (x .at) _ _ _ l (omega (arith, pre .0 .0, pre .0 .1 .0)) (omega (arith, pre .0 .0, pre .0 .1 .1)) _ (c .before .before .before .before .before .before .read-part .ensures) in (omega (arith, r .0, pre .0 .0, pre .0 .1 .0, l .puts .end), (omega (arith, r .0, pre .0 .0, pre .0 .1 .1, l .puts .size), omega (arith, r .1 .1 .0, r .1 .0, r .1 .1 .1, l .small, pre .1)))
+
+loop-less : tie.Need-loop-less Inv-loop μ-loop
+unfolding bytes
+loop-less c = let x = c .before .before .before .before .before .before .before .before .before .before .before .before .before .before .before .before .before .before .args in let l = c .before .before .before .before .before .before .before .before .before .before .before .before .before .loop .inv in let pre = c .before .before .before .before .before .before .before .before .before .before .before .before .before .before .before .before .before .before .pre in let r = join-room (x .work .now) (x .a) (x .e - x .a) (x .at) _ _ _ l (omega (arith, pre .0 .0, pre .0 .1 .0)) (omega (arith, pre .0 .0, pre .0 .1 .1)) _ (c .before .before .before .before .before .before .before .before .before .read-part .ensures) in omega (arith, r .1 .0, r .1 .1 .0)
+
+loop-again : tie.Need-loop-again Inv-loop μ-loop
+unfolding bytes
+loop-again c = let x = c .before .before .before .before .before .before .before .before .before .before .before .before .before .before .before .before .before .before .args in let l = c .before .before .before .before .before .before .before .before .before .before .before .before .before .loop .inv in let pre = c .before .before .before .before .before .before .before .before .before .before .before .before .before .before .before .before .before .before .pre in join-turn (x .work .now) (x .a) (x .e - x .a) (x .at) _ _ _ l (omega (arith, pre .0 .0, pre .0 .1 .0)) (omega (arith, pre .0 .0, pre .0 .1 .1)) _ (c .before .before .before .before .before .before .before .before .before .read-part .ensures) _ _ (sym (c .before .before .before .before .before .before .counts-as .ensures) ∙ c .before .before .before .before .before .if1 .left) (c .before .before .put-more .ensures)
+
+same-length-2 : tie.Need-same-length-2 Inv-loop μ-loop
+same-length-2 c = c .before .loop .inv .puts .size
+
+returns-2 : tie.Need-returns-2 Inv-loop μ-loop
+returns-2 c = let x = c .before .before .before .before .before .before .args in let l = c .before .loop .inv in let pre = c .before .before .before .before .before .before .pre in join-end (x .work .now) (x .a) (x .e - x .a) (x .at) _ _ _ l (omega (arith, pre .0 .0, pre .0 .1 .0)) (omega (arith, pre .0 .0, pre .0 .1 .1)) (c .loop-test .left)
 
 pub join-texts-spec : {M : Type 1} → statement M
 join-texts-spec =
     tie.close
     (tie.spec
-    sub-read-fields
-    part-read-fields-start
-    part-read-fields-end
-    read-fields-requires
-    same-length
-    returns
+    Inv-loop
+    μ-loop
     sub-leading-id
     part-leading-id-start
     part-leading-id-end
     leading-id-requires
-    join-from-requires
+    loop-holds
+    sub-loop
+    sub-read-part
+    part-read-part-start
+    part-read-part-end
+    read-part-requires
+    sub-counts-as
+    part-counts-as-start
+    part-counts-as-end
+    counts-as-requires
+    same-length
+    returns
+    add-put-more
+    put-more-requires
+    loop-less
+    loop-again
     same-length-2
     returns-2)
