@@ -1,7 +1,8 @@
 -- Laws of counting open quotes. Assumes nothing.
-use mathlib.Core.Path.{_≡_, refl, ap, _∙_}
+use mathlib.Core.Path.{_≡_, refl, sym, ap, _∙_}
 use Prim.Native.Nat.{ℕ, _+_, _-_, _≤_, _<_}
 use native.Mathlib.Omega.{arith}
+use native.Mathlib.Decide.{decLe}
 use mathlib.Core.Bool.{true, false, cond}
 use mathlib.Core.List.{List}
 use lib.ListN.{length, drop}
@@ -9,37 +10,24 @@ use borrow.Author.Tests.{lt-ltb, le-ltb}
 use lib.Dec.{ltb}
 use Rattle.text.specs.Ascii.{is, toFirst}
 use Rattle.text.specs.Cells.{Cell, bytes}
-use Rattle.quote_tags.specs.Tags.{NextBracket, openers, closers, openerSize, closerSize}
+use Rattle.quote_tags.specs.Tags.{openerSize, closerSize}
 use Rattle.quote_blocks.specs.Quotes.{tokens, tooDeepFrom, tooDeep, DepthBehind, TooDeep}
-use Rattle.quote_tags.proofs.Tagging.{behind-within}
-use Rattle.quote_tags.proofs.Plain.{bracket-past}
-use Rattle.quote_steps.proofs.Texts.{run-within, read-run, deep-texts}
+use Rattle.quote_steps.proofs.Texts.{read-run, deep-texts}
 use Rattle.quote_blocks.proofs.Reading.{read-opener, read-closer, read-text, read-end, deep-opener, deep-closer, deep-text}
 
 -- ---- one token
 
-abbrev Behind : (s : List ℕ) (i depth i' b depth' : ℕ) → Type 0
-Behind s i depth i' b depth' = ((i < i') × (i' ≤ length s)) × ((NextBracket s i' b × (depth' ≤ 65)) × DepthBehind s i depth i' depth')
-
-module _ (s : List ℕ) (i b d k : ℕ) (lt : i < length s) (nb : NextBracket s i b) (h : d ≤ 64) (ek : k ≡ openerSize (drop i s)) where
-  pub depth-opener : (k ≡ 0 → ⊥) → Behind s i d (i + k) b (d + 1)
-  unfolding openerSize
-  depth-opener n =
-      let w = behind-within openers s i (omega arith) ek in
-      ((omega arith, w), ((bracket-past s i (i + k) (omega arith) w nb, omega arith), record { same = λ x e. ap (tooDeepFrom d) (read-opener x s e i ek n) ∙ deep-opener d _ _ _ h }))
+module _ (s : List ℕ) (i d k : ℕ) (lt : i < length s) (h : d ≤ 64) (ek : k ≡ openerSize (drop i s)) where
+  pub depth-opener : {d' : ℕ} → (k ≡ 0 → ⊥) → d' ≡ d + 1 → DepthBehind s i d (i + k) d'
+  depth-opener {d'} n q = record { same = λ x e. ap (tooDeepFrom d) (read-opener x s e i ek n) ∙ deep-opener d _ _ _ h ∙ rw (← q) }
 
   module _ (j : ℕ) (z : k ≡ 0) (ej : j ≡ closerSize (drop i s)) where
-    pub depth-closer : (d' : ℕ) → (j ≡ 0 → ⊥) → d' ≡ d - 1 → Behind s i d (i + j) b d'
-    unfolding closerSize
-    depth-closer d' n q =
-        let w = behind-within closers s i (omega arith) ej in
-        ((omega arith, w), ((bracket-past s i (i + j) (omega arith) w nb, omega arith), record { same = λ x e. ap (tooDeepFrom d) (read-closer x s e i ek z ej n) ∙ deep-closer d _ _ h q }))
+    pub depth-closer : {d' : ℕ} → (j ≡ 0 → ⊥) → d' ≡ d - 1 → DepthBehind s i d (i + j) d'
+    depth-closer n q = record { same = λ x e. ap (tooDeepFrom d) (read-closer x s e i ek z ej n) ∙ deep-closer d _ _ h q }
 
     -- with the text up to the next `[`
-    pub depth-text : j ≡ 0 → {q : ℕ} → q ≡ i + 1 + toFirst (is "[") (drop (i + 1) s) → Behind s i d q b d
-    depth-text y {q} eq =
-        let w = run-within s (i + 1) (omega arith) eq in
-        ((omega (arith, w), w .1), ((bracket-past s i q (omega (arith, w)) (w .1) nb, omega arith), record { same = λ x e. ap (tooDeepFrom d) (read-text x s e i lt ek z ej y) ∙ deep-text d _ _ h ∙ ap (cond (ltb 64 d) true) (later x e q eq) }))
+    pub depth-text : j ≡ 0 → {q : ℕ} → q ≡ i + 1 + toFirst (is "[") (drop (i + 1) s) → DepthBehind s i d q d
+    depth-text y {q} eq = record { same = λ x e. ap (tooDeepFrom d) (read-text x s e i lt ek z ej y) ∙ deep-text d _ _ h ∙ ap (cond (ltb 64 d) true) (later x e q eq) }
       where
         later : (x : List Cell) → bytes x ≡ s → (q : ℕ) → q ≡ i + 1 + toFirst (is "[") (drop (i + 1) s) → tooDeepFrom d (tokens 0 (drop (i + 1) x)) ≡ tooDeepFrom d (tokens 0 (drop q x))
         later x e q eq =
@@ -48,22 +36,33 @@ module _ (s : List ℕ) (i b d k : ℕ) (lt : i < length s) (nb : NextBracket s 
 
 -- ---- all tokens
 
--- what is left to read from i on decides
+-- where no opener was one too many before i, what is left to read from i on decides
 pub record Deepening (s : List ℕ) (i depth : ℕ) : Type 0 where
-  pub same : (x : List Cell) → bytes x ≡ s → tooDeep x ≡ tooDeepFrom depth (tokens 0 (drop i x))
+  pub few : depth ≤ 65
+  pub within : depth ≤ 64 → (x : List Cell) → bytes x ≡ s → tooDeep x ≡ tooDeepFrom depth (tokens 0 (drop i x))
+  pub over : 64 < depth → TooDeep s true
 
 pub deepening : (s : List ℕ) → Deepening s 0 0
 unfolding tooDeep
-deepening s = record { same = λ x e. refl }
+deepening s = record { few = omega arith; within = λ h x e. refl; over = λ h. absurd (omega (arith, h)) }
 
 module _ {s : List ℕ} {i d : ℕ} (w : Deepening s i d) where
-  pub deep-end : length s ≤ i → TooDeep s false
+  pub deepening-on : {i' d' : ℕ} → (d ≤ 64 → DepthBehind s i d i' d') → (64 < d → d' ≡ d) → d' ≤ 65 → Deepening s i' d'
+  deepening-on {i'} {d'} z o m = record {
+    few = m;
+    within = λ le x e. elim (decLe d 64) [
+      yes h ↦ w .within h x e ∙ z h .same x e ∙ rw (le-ltb 64 d' le)
+      | no h ↦ let q = o (omega (arith, h)) in absurd (omega (arith, q, h, le))
+    ];
+    over = λ lt x e. elim (decLe d 64) [
+      yes h ↦ w .within h x e ∙ z h .same x e ∙ rw (lt-ltb 64 d' lt)
+      | no h ↦ w .over (omega (arith, h)) x e
+    ];
+  }
+
+  pub deep-end : length s ≤ i → TooDeep s (ltb 64 d)
   unfolding tooDeepFrom
-  deep-end le x e = w .same x e ∙ ap (tooDeepFrom d) (read-end x s e i le)
-
-  module _ {i' d' : ℕ} (z : DepthBehind s i d i' d') where
-    pub deep-stop : 64 < d' → TooDeep s true
-    deep-stop lt x e = w .same x e ∙ z .same x e ∙ rw (lt-ltb 64 d' lt)
-
-    pub deep-on : d' ≤ 64 → Deepening s i' d'
-    deep-on le = record { same = λ x e. w .same x e ∙ z .same x e ∙ rw (le-ltb 64 d' le) }
+  deep-end le x e = elim (decLe d 64) [
+    yes h ↦ w .within h x e ∙ ap (tooDeepFrom d) (read-end x s e i le) ∙ sym (le-ltb 64 d h)
+    | no h ↦ let g : 64 < d = omega (arith, h) in w .over g x e ∙ sym (lt-ltb 64 d g)
+  ]

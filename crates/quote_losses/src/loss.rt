@@ -1,8 +1,10 @@
 // The losses of a text's quotes in the order of their openers, each with its line in the original text. They are listed in lent slices; what
 // does not fit is counted, so refusals 7 and 8 are decided by the counts. The numbers of their records stand before a place `base` of the work
 // numbers, and the tags of the original text from there on.
-use attribution_losses::loss::Counts;
 use attribution_losses::loss::put_losses;
+use crate::deep::QUOTES_MOST;
+use crate::deep::open_less;
+use crate::deep::open_more;
 use quote_lines::search::attribution_size;
 use quote_lines::search::line_of;
 use quote_tags::tag::tag_at;
@@ -15,13 +17,15 @@ ghost use lib.ListN.{length, take, drop};
 ghost use Rattle.quote_tags.specs.Tags.{NextBracket};
 ghost use Rattle.quote_lines.specs.Lines.{tags};
 ghost use Rattle.quote_lines.specs.Tables.{Table};
+ghost use Rattle.quote_blocks.specs.Quotes.{DepthBehind, TooDeep};
 ghost use Rattle.quote_losses.specs.Losses.{ListsToken, FewAt, ListsLosses};
 
-// A place in the text and the place of the next `]`; the number of the next quote, the tag that its search begins at, and the losses and
-// loss bytes before the place.
+// A place in the text and the place of the next `]`; how many quotes are open there, one more than may be where that was ever so; the number of the
+// next quote, the tag that its search begins at, and the losses and loss bytes before the place.
 pub struct Listing {
     pub at: PostAt,
     pub bracket: PostAt,
+    pub open: usize,
     pub quote: usize,
     pub next: usize,
     pub losses: usize,
@@ -38,8 +42,8 @@ fn list_token(
     from: Listing,
     loss_bytes: &mut [u8],
 ) -> Listing
-    requires { ⌜ ((from .at .0 < length (now source)) × (length (now source) ≤ 16777216)) × ((NextBracket (now source) (from .at .0) (from .bracket .0) × FewAt (from .at .0) (from .quote) (from .losses) (from .bytes)) × (Table (now post) (drop base (now numbers)) 0 count × (base ≤ length (now numbers)))) ⌝ }
-    ensures { λ r. ⌜ ((((from .at .0 < r .at .0) × (r .at .0 ≤ length (now (source .entry)))) × (NextBracket (now (source .entry)) (r .at .0) (r .bracket .0) × FewAt (r .at .0) (r .quote) (r .losses) (r .bytes))) × ListsToken (now (source .entry)) (tags 1 0 (now (post .entry))) (take base (now (numbers .entry))) (now («loss_bytes» .entry)) (from .at .0) (from .quote) (from .next) (from .losses) (from .bytes) (take base (now (numbers .exit))) (now («loss_bytes» .exit)) (r .at .0) (r .quote) (r .next) (r .losses) (r .bytes)) × (drop base (now (numbers .exit)) ≡ drop base (now (numbers .entry))) ⌝ }
+    requires { ⌜ ((from .at .0 < length (now source)) × (length (now source) ≤ 16777216)) × (((NextBracket (now source) (from .at .0) (from .bracket .0) × (from .«open» ≤ 65)) × FewAt (from .at .0) (from .quote) (from .losses) (from .bytes)) × (Table (now post) (drop base (now numbers)) 0 count × (base ≤ length (now numbers)))) ⌝ }
+    ensures { λ r. ⌜ ((((from .at .0 < r .at .0) × (r .at .0 ≤ length (now (source .entry)))) × (NextBracket (now (source .entry)) (r .at .0) (r .bracket .0) × FewAt (r .at .0) (r .quote) (r .losses) (r .bytes))) × ListsToken (now (source .entry)) (tags 1 0 (now (post .entry))) (take base (now (numbers .entry))) (now («loss_bytes» .entry)) (from .at .0) (from .quote) (from .next) (from .losses) (from .bytes) (take base (now (numbers .exit))) (now («loss_bytes» .exit)) (r .at .0) (r .quote) (r .next) (r .losses) (r .bytes)) × ((drop base (now (numbers .exit)) ≡ drop base (now (numbers .entry))) × ((from .«open» ≤ 64 → DepthBehind (now (source .entry)) (from .at .0) (from .«open») (r .at .0) (r .«open»)) × ((64 < from .«open» → r .«open» ≡ from .«open») × (r .«open» ≤ 65)))) ⌝ }
 {
     let at = from.at;
     let known = from.bracket;
@@ -47,6 +51,7 @@ fn list_token(
     let next = from.next;
     let losses = from.losses;
     let bytes = from.bytes;
+    let open = from.open;
     let i = at.0;
     let tag = tag_at(source, at, known);
     let bracket = tag.bracket;
@@ -64,9 +69,11 @@ fn list_token(
             loss_bytes,
             bytes,
         );
+        let deeper = open_more(open);
         return Listing {
             at: PostAt(i + k),
             bracket,
+            open: deeper,
             quote: quote + 1,
             next: found.next,
             losses: c.losses,
@@ -75,9 +82,11 @@ fn list_token(
     }
     let j = tag.closer;
     if j != 0 {
+        let higher = open_less(open);
         return Listing {
             at: PostAt(i + j),
             bracket,
+            open: higher,
             quote,
             next,
             losses,
@@ -88,6 +97,7 @@ fn list_token(
     Listing {
         at: later,
         bracket,
+        open,
         quote,
         next,
         losses,
@@ -95,7 +105,14 @@ fn list_token(
     }
 }
 
-// Lists the losses of all quotes of a text.
+// How many losses a text has, and how many bytes their fields; and whether an opener is met while as many quotes are open as may be.
+pub struct Listed {
+    pub losses: usize,
+    pub bytes: usize,
+    pub deep: bool,
+}
+
+// Lists the losses of all quotes of a text, and counts how deep they stand.
 pub fn list_losses(
     source: &[u8],
     post: &[u8],
@@ -103,13 +120,14 @@ pub fn list_losses(
     base: usize,
     count: usize,
     loss_bytes: &mut [u8],
-) -> Counts
+) -> Listed
     requires { ⌜ (length (now source) ≤ 16777216) × (Table (now post) (drop base (now numbers)) 0 count × (base ≤ length (now numbers))) ⌝ }
-    ensures { λ r. ⌜ ListsLosses (now (source .entry)) (tags 1 0 (now (post .entry))) (take base (now (numbers .entry))) (now («loss_bytes» .entry)) (take base (now (numbers .exit))) (now («loss_bytes» .exit)) (r .losses) (r .bytes) ⌝ }
+    ensures { λ r. ⌜ ListsLosses (now (source .entry)) (tags 1 0 (now (post .entry))) (take base (now (numbers .entry))) (now («loss_bytes» .entry)) (take base (now (numbers .exit))) (now («loss_bytes» .exit)) (r .losses) (r .bytes) × TooDeep (now (source .entry)) (r .deep) ⌝ }
 {
     let mut st = Listing {
         at: PostAt(0),
         bracket: next_bracket(source, PostAt(0)),
+        open: 0,
         quote: 1,
         next: 0,
         losses: 0,
@@ -121,8 +139,9 @@ pub fn list_losses(
         let at = st.at;
         i = at.0;
     }
-    Counts {
+    Listed {
         losses: st.losses,
         bytes: st.bytes,
+        deep: QUOTES_MOST < st.open,
     }
 }

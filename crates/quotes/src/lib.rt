@@ -8,7 +8,7 @@ use lending::lent::check;
 use losses::Loss;
 use losses::fill;
 use quote_lines::search::read_lines;
-use quote_losses::deep::is_too_deep;
+use quote_losses::loss::Listed;
 use quote_losses::loss::list_losses;
 use quote_steps::pass::quote_pass;
 use text::PostAt;
@@ -27,7 +27,7 @@ ghost use Rattle.text.specs.Cells.{cells, cellsOf, part};
 ghost use Rattle.text.specs.Writes.{cleared, LaidOut};
 ghost use Rattle.quote_tags.specs.Masks.{visible};
 ghost use Rattle.quote_lines.specs.Lines.{tags};
-ghost use Rattle.quote_blocks.specs.Quotes.{tooDeep};
+ghost use Rattle.quote_blocks.specs.Quotes.{TooDeep, tooDeep};
 ghost use Rattle.quote_losses.specs.Losses.{ListsLosses};
 ghost use Rattle.quotes.specs.Calls.{limited, spaced, converted, lossesBy, Filled, Called, Noted, Answers, Numbered, Spelled};
 ghost use Rattle.quotes.specs.declared.Quoted.the-variants.{Done, Refused};
@@ -47,16 +47,16 @@ fn refuse(r: Refusal, out: &mut [u8], origins: &mut [u32], loss_bytes: &mut [u8]
     Quoted::Refused(r)
 }
 
-// Lists the losses of a text, with the lines of its own quotes: the numbers of their records before `base`.
+// Lists the losses of a text, with the lines of its own quotes, and counts how deep these stand: the numbers of the records before `base`.
 fn list_own(
     text: &[u8],
     work: &mut [u8],
     numbers: &mut [u32],
     base: usize,
     loss_bytes: &mut [u8],
-) -> Counts
+) -> Listed
     requires { ⌜ (length (now text) ≤ 262144) × ((length (now text) ≤ length (now work)) × (base + length (now text) ≤ length (now numbers))) ⌝ }
-    ensures { λ r. ⌜ ListsLosses (now (text .entry)) (tags 1 0 (visible (now (text .entry)))) (take base (now (numbers .entry))) (now («loss_bytes» .entry)) (take base (now (numbers .exit))) (now («loss_bytes» .exit)) (r .losses) (r .bytes) ⌝ }
+    ensures { λ r. ⌜ ListsLosses (now (text .entry)) (tags 1 0 (visible (now (text .entry)))) (take base (now (numbers .entry))) (now («loss_bytes» .entry)) (take base (now (numbers .exit))) (now («loss_bytes» .exit)) (r .losses) (r .bytes) × TooDeep (now (text .entry)) (r .deep) ⌝ }
 {
     let own = read_lines(text, work, &mut numbers[base..]);
     let size = own.size;
@@ -151,16 +151,17 @@ fn convert(
     ensures { λ r. ⌜ Answers (now (text .entry)) (length (now (out .entry))) (length (now (origins .entry))) (length (now («loss_bytes» .entry))) (converted (cellsOf (now (text .entry))) (length (now (out .entry))) lent (length (now («loss_bytes» .entry)))) r (now (out .exit)) (now (origins .exit)) (now («loss_bytes» .exit)) × Noted (now (text .entry)) lent r (now (numbers .exit)) ⌝ }
 {
     let base = 5 * text.len();
-    let deep = is_too_deep(text);
     let c = list_own(text, work, numbers, base, loss_bytes);
-    let many = lent < c.losses;
-    let long = loss_bytes.len() < c.bytes;
-    let refused = refusal_of(deep, many, long);
+    let losses = c.losses;
+    let bytes = c.bytes;
+    let many = lent < losses;
+    let long = loss_bytes.len() < bytes;
+    let refused = refusal_of(c.deep, many, long);
     match refused {
         Checked::Refused(r) => refuse(r, out, origins, loss_bytes),
         Checked::Fine => write_quotes(
             text,
-            c,
+            Counts { losses, bytes },
             work,
             &mut numbers[base..],
             out,

@@ -13,136 +13,108 @@ use Rattle.quotes.proofs.convert.Statement.{statement}
 use Rattle.quotes.proofs.convert.Tie as tie
 use Rattle.quotes.proofs.convert.Reads as reads
 use Rattle.quotes.proofs.convert.Lts as lts
-use Rattle.quote_losses.proofs.deep.is_too_deep.Reads as is-too-deep-reads
 use Rattle.quotes.proofs.list_own.Reads as list-own-reads
 use Rattle.quotes.proofs.refusal_of.Reads as refusal-of-reads
 use Rattle.quotes.proofs.refuse.Reads as refuse-reads
 use Rattle.quotes.proofs.write_quotes.Reads as write-quotes-reads
 
--- src/lib.rt:161:16
 mul-base : tie.Need-mul-base
 mul-base c = search needs
 
--- src/lib.rt:162:9
-is-too-deep-requires : tie.Need-is-too-deep-requires
-is-too-deep-requires c κs = search needs
-
--- src/lib.rt:163:9
 list-own-requires : tie.Need-list-own-requires
 list-own-requires c κs = search needs
 
--- src/lib.rt:166:9
 refusal-of-requires : tie.Need-refusal-of-requires
 refusal-of-requires c κs = search needs
 
--- src/lib.rt:168:26
 enum-known-refused : tie.Need-enum-known-refused
 enum-known-refused c = search needs
 
--- src/lib.rt:168:32
 refuse-requires : tie.Need-refuse-requires
 refuse-requires c κs = search needs
 
--- src/lib.rt:172:13
 enum-told : tie.Need-enum-told
 enum-told c = search needs
 
--- src/lib.rt:173:13
 mul-write-quotes : tie.Need-mul-write-quotes
 mul-write-quotes c = search needs
 
--- src/lib.rt:173:13
 sub-write-quotes : tie.Need-sub-write-quotes
 sub-write-quotes c = search needs
 
--- src/lib.rt:173:13
 part-write-quotes-start : tie.Need-part-write-quotes-start
 part-write-quotes-start c = search needs
 
--- src/lib.rt:173:13
 part-write-quotes-end : tie.Need-part-write-quotes-end
 part-write-quotes-end c = search needs
 
--- src/lib.rt:169:26
 write-quotes-requires : tie.Need-write-quotes-requires
 write-quotes-requires c κs =
-    let a = c .before .before .before .before .before .before .before .before .before .before .before .before .before .before .before .before .before .before .before .before .before .before .before .before .before .before .before in
+    let a = c .before .before .before .before .before .before .before .before .before .before .before .before .before .before .before .before .before .before .before .before .before .before .before .before in
     let pre = a .pre in
     let t = a .args .text .now in
-    let o = c .before .before .before .before .before .before .before .before .before .before .before .before .before .before .before .before .list-own in
+    let o = c .before .before .before .before .before .before .before .before .before .before .before .before .before .before .list-own in
     let lw = o .kept .1 .0 in
     let ln = o .kept .1 .1 .0 in
     let lb = o .kept .1 .1 .1 .1 .0 in
     let n = back-long (o .last .1 .1 .0) (5 * length t) in
-    let w = within (c .before .before .before .before .before .before .before .before .before .before .before .before .before .before .before .before .before .before .before .before .is-too-deep .result) (c .before .before .before .before .before .before .before .before .before .before .before .before .before .before .before .before .before .before .before .before .before .before .before .before .before .before .before .args .lent) (length (c .before .before .before .before .before .before .before .before .before .before .before .before .before .before .before .before .list-own .last .1 .1 .1 .1 .0)) (c .before .before .before .before .before .before .before .before .before .before .before .before .before .before .before .before .list-own .result .losses) (c .before .before .before .before .before .before .before .before .before .before .before .before .before .before .before .before .list-own .result .bytes) (sym (c .before .before .before .before .before .before .before .refusal-of .ensures) ∙ c .before .before .before .before .before .enum-told .given .1) in
-    (pre .0, ((omega (arith, pre .1 .0, lw), omega (arith, pre .1 .1, ln, n)), (c .before .before .before .before .before .before .before .before .before .before .before .before .before .before .before .before .before .before .before .before .is-too-deep .ensures (cellsOf t) (bytes-cellsOf t) ∙ w .0, spelled-there t _ _ _ _ _ _ _ (o .ensures) (cellsOf t) (bytes-cellsOf t) (omega (arith, w .1 .1, lb)))))
+    let w = within (c .before .before .before .before .before .before .before .before .before .before .before .before .before .before .list-own .result .deep) (c .before .before .before .before .before .before .before .before .before .before .before .before .before .before .before .before .before .before .before .before .before .before .before .before .args .lent) (length (c .before .before .before .before .before .before .before .before .before .before .before .before .before .before .list-own .last .1 .1 .1 .1 .0)) (c .before .before .before .before .before .before .before .before .before .before .before .before .before .before .list-own .result .losses) (c .before .before .before .before .before .before .before .before .before .before .before .before .before .before .list-own .result .bytes) (sym (c .before .before .before .before .before .before .before .refusal-of .ensures) ∙ c .before .before .before .before .before .enum-told .given .1) in
+    (pre .0, ((omega (arith, pre .1 .0, lw), omega (arith, pre .1 .1, ln, n)), (c .before .before .before .before .before .before .before .before .before .before .before .before .before .before .list-own .ensures .1 (cellsOf t) (bytes-cellsOf t) ∙ w .0, spelled-there t _ _ _ _ _ _ _ (o .ensures .0) (cellsOf t) (bytes-cellsOf t) (omega (arith, w .1 .1, lb)))))
 
--- src/lib.rt:149:1
 same-length : tie.Need-same-length
 same-length c = search needs
 
--- src/lib.rt:149:1
 same-length-2 : tie.Need-same-length-2
 same-length-2 c = search needs
 
--- src/lib.rt:149:1
 same-length-3 : tie.Need-same-length-3
 same-length-3 c = search needs
 
--- src/lib.rt:149:1
 same-length-4 : tie.Need-same-length-4
 same-length-4 c = search needs
 
--- src/lib.rt:149:1
 same-length-5 : tie.Need-same-length-5
 same-length-5 c = search needs
 
--- src/lib.rt:149:1
 returns : tie.Need-returns
 returns c =
-    let t = c .before .before .before .before .before .before .before .before .before .before .before .before .before .before .before .before .before .before .before .before .before .before .before .before .before .before .before .before .before .before .before .before .before .args .text .now in
-    let o = c .before .before .before .before .before .before .before .before .before .before .before .before .before .before .before .before .before .before .before .before .before .before .list-own in
-    let n = listed-counts t _ _ _ _ _ _ _ (o .ensures) (cellsOf t) (bytes-cellsOf t) in
-    let v = converted-by (cellsOf t) _ _ _ _ _ _ _ (o .kept .1 .1 .1 .1 .0) (sym (c .before .before .before .before .before .before .before .before .before .before .before .before .before .before .before .before .before .before .before .before .before .before .before .before .before .before .is-too-deep .ensures (cellsOf t) (bytes-cellsOf t))) (n .0) (n .1) in
+    let t = c .before .before .before .before .before .before .before .before .before .before .before .before .before .before .before .before .before .before .before .before .before .before .before .before .before .before .before .before .before .before .args .text .now in
+    let o = c .before .before .before .before .before .before .before .before .before .before .before .before .before .before .before .before .before .before .before .before .list-own in
+    let n = listed-counts t _ _ _ _ _ _ _ (o .ensures .0) (cellsOf t) (bytes-cellsOf t) in
+    let v = converted-by (cellsOf t) _ _ _ _ _ _ _ (o .kept .1 .1 .1 .1 .0) (sym (c .before .before .before .before .before .before .before .before .before .before .before .before .before .before .before .before .before .before .before .before .list-own .ensures .1 (cellsOf t) (bytes-cellsOf t))) (n .0) (n .1) in
     let r = c .before .before .before .before .before .before .refuse .ensures in
     (answers-refused _ _ _ v (sym (c .before .before .before .before .before .before .before .before .before .before .before .before .before .refusal-of .ensures) ∙ c .before .before .before .before .before .before .before .before .before .before .before .refused .given .1) (r .0) (rw (o .kept .1 .1 .1 .1 .0) at (r .1)), refused-noted _ _ _ _ _ (r .0))
 
--- src/lib.rt:149:1
 same-length-6 : tie.Need-same-length-6
 same-length-6 c = search needs
 
--- src/lib.rt:149:1
 same-length-7 : tie.Need-same-length-7
 same-length-7 c = search needs
 
--- src/lib.rt:149:1
 same-length-8 : tie.Need-same-length-8
 same-length-8 c = search needs
 
--- src/lib.rt:149:1
 same-length-9 : tie.Need-same-length-9
 same-length-9 c = search needs
 
--- src/lib.rt:149:1
 same-length-10 : tie.Need-same-length-10
 same-length-10 c = search needs
 
--- src/lib.rt:149:1
 returns-2 : tie.Need-returns-2
 returns-2 c =
-    let a = c .before .before .before .before .before .before .before .before .before .before .before .before .before .before .before .before .before .before .before .before .before .before .before .before .before .before .before .before .before .before .before .before .before .before .before .before .before .before in
+    let a = c .before .before .before .before .before .before .before .before .before .before .before .before .before .before .before .before .before .before .before .before .before .before .before .before .before .before .before .before .before .before .before .before .before .before .before in
     let pre = a .pre in
     let t = a .args .text .now in
-    let o = c .before .before .before .before .before .before .before .before .before .before .before .before .before .before .before .before .before .before .before .before .before .before .before .before .before .before .before .list-own in
+    let o = c .before .before .before .before .before .before .before .before .before .before .before .before .before .before .before .before .before .before .before .before .before .before .before .before .before .list-own in
     let ln = o .kept .1 .1 .0 in
     let lb = o .kept .1 .1 .1 .1 .0 in
-    let n = listed-counts t _ _ _ _ _ _ _ (o .ensures) (cellsOf t) (bytes-cellsOf t) in
-    let v = converted-by (cellsOf t) _ _ _ _ _ _ _ lb (sym (c .before .before .before .before .before .before .before .before .before .before .before .before .before .before .before .before .before .before .before .before .before .before .before .before .before .before .before .before .before .before .before .is-too-deep .ensures (cellsOf t) (bytes-cellsOf t))) (n .0) (n .1) in
-    let w = within (c .before .before .before .before .before .before .before .before .before .before .before .before .before .before .before .before .before .before .before .before .before .before .before .before .before .before .before .before .before .before .before .is-too-deep .result) (c .before .before .before .before .before .before .before .before .before .before .before .before .before .before .before .before .before .before .before .before .before .before .before .before .before .before .before .before .before .before .before .before .before .before .before .before .before .before .args .lent) (length (c .before .before .before .before .before .before .before .before .before .before .before .before .before .before .before .before .before .before .before .before .before .before .before .before .before .before .before .list-own .last .1 .1 .1 .1 .0)) (c .before .before .before .before .before .before .before .before .before .before .before .before .before .before .before .before .before .before .before .before .before .before .before .before .before .before .before .list-own .result .losses) (c .before .before .before .before .before .before .before .before .before .before .before .before .before .before .before .before .before .before .before .before .before .before .before .before .before .before .before .list-own .result .bytes) (sym (c .before .before .before .before .before .before .before .before .before .before .before .before .before .before .before .before .before .before .refusal-of .ensures) ∙ c .before .before .before .before .before .before .before .before .before .before .before .before .before .before .before .before .enum-told .given .1) in
+    let n = listed-counts t _ _ _ _ _ _ _ (o .ensures .0) (cellsOf t) (bytes-cellsOf t) in
+    let v = converted-by (cellsOf t) _ _ _ _ _ _ _ lb (sym (c .before .before .before .before .before .before .before .before .before .before .before .before .before .before .before .before .before .before .before .before .before .before .before .before .before .list-own .ensures .1 (cellsOf t) (bytes-cellsOf t))) (n .0) (n .1) in
+    let w = within (c .before .before .before .before .before .before .before .before .before .before .before .before .before .before .before .before .before .before .before .before .before .before .before .before .before .list-own .result .deep) (c .before .before .before .before .before .before .before .before .before .before .before .before .before .before .before .before .before .before .before .before .before .before .before .before .before .before .before .before .before .before .before .before .before .before .before .args .lent) (length (c .before .before .before .before .before .before .before .before .before .before .before .before .before .before .before .before .before .before .before .before .before .before .before .before .before .list-own .last .1 .1 .1 .1 .0)) (c .before .before .before .before .before .before .before .before .before .before .before .before .before .before .before .before .before .before .before .before .before .before .before .before .before .list-own .result .losses) (c .before .before .before .before .before .before .before .before .before .before .before .before .before .before .before .before .before .before .before .before .before .before .before .before .before .list-own .result .bytes) (sym (c .before .before .before .before .before .before .before .before .before .before .before .before .before .before .before .before .before .before .refusal-of .ensures) ∙ c .before .before .before .before .before .before .before .before .before .before .before .before .before .before .before .before .enum-told .given .1) in
     let l = length-take-le (5 * length t) (a .args .numbers .now) (omega (arith, pre .1 .1)) in
     let e = rw lb at (c .before .before .before .before .before .before .before .before .before .before .write-quotes .ensures) in (
       answers-fine _ _ v (sym (c .before .before .before .before .before .before .before .before .before .before .before .before .before .before .before .before .before .before .refusal-of .ensures) ∙ c .before .before .before .before .before .before .before .before .before .before .before .before .before .before .before .before .enum-told .given .1) e,
-      spaced-noted t _ _ (5 * length t) (o .last .1 .1 .0) _ (w .1 .0) (records-there t _ _ _ _ _ _ _ (o .ensures) (cellsOf t) (bytes-cellsOf t) (omega (arith, o .ensures .few, l))) (omega (arith, o .ensures .few)) (omega (arith, pre .1 .1, ln)) (n .0) _ _ (e .answer),
+      spaced-noted t _ _ (5 * length t) (o .last .1 .1 .0) _ (w .1 .0) (records-there t _ _ _ _ _ _ _ (o .ensures .0) (cellsOf t) (bytes-cellsOf t) (omega (arith, o .ensures .0 .few, l))) (omega (arith, o .ensures .0 .few)) (omega (arith, pre .1 .1, ln)) (n .0) _ _ (e .answer),
     )
 
 pub convert-spec : {M : Type 1} → statement M
@@ -150,7 +122,6 @@ convert-spec =
     tie.close
     (tie.spec
     mul-base
-    is-too-deep-requires
     list-own-requires
     refusal-of-requires
     enum-known-refused
