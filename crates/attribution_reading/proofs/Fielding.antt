@@ -114,6 +114,9 @@ counts-sized {s} {at} {p} k sc h =
     let m = counts-some k (partOf s p) h in
     omega (arith, ap length v, n, m)
 
+pub scan-less : {s : List ℕ} {at : ℕ} {p : Place} → Scanned s at p → length s - p .next < length s - at
+scan-less sc = omega (arith, sc .grows, sc .inside)
+
 pub keeps-inside : {s : List ℕ} {at : ℕ} {p : Place} → Scanned s at p → (p .key + p .keylen ≤ length s) × (p .from + p .size ≤ length s)
 keeps-inside sc = (omega (arith, sc .key-ends, sc .inside), omega (arith, sc .ends, sc .inside))
 

@@ -197,7 +197,7 @@ some-size s at lt e = by (keySize (drop at s)) (inQuotes (drop at s)) (run (drop
         byq false h = h
     by (suc k) q h = omega arith
 
-parts-first : (s : List ℕ) (at : ℕ) → at < length s → isSpace (getD s at 0) ≡ false → parts 0 (drop at s) ≡ partAt (drop at s) ∷ parts 0 (drop (at + partSize (drop at s)) s)
+pub parts-first : (s : List ℕ) (at : ℕ) → at < length s → isSpace (getD s at 0) ≡ false → parts 0 (drop at s) ≡ partAt (drop at s) ∷ parts 0 (drop (at + partSize (drop at s)) s)
 unfolding parts
 parts-first s at lt e =
     let z = some-size s at lt e in

@@ -17,11 +17,11 @@ use Rattle.attribution_parts.specs.declared.Kind.the-variants.{PostId, Id}
 use Rattle.attribution_reading.specs.declared.facts.Last.{Last}
 use Rattle.attribution_reading.specs.declared.facts.Lead.{Lead}
 use Rattle.attribution_reading.specs.declared.facts.Fields.{Fields}
-use Rattle.attribution_parts.specs.Parts.{Part, field, text, parts}
+use Rattle.attribution_parts.specs.Parts.{Part, field, text, parts, isQuote, inQuotes, keySize, readAt, partAt, partSize}
 use Rattle.attribution_parts.specs.Attribution.{valueOf, partNo, isLeading, leading, leadingId, spaced, joined, wordsOf, textsOf, texts, toSuffix, isSuffix, orElse, fieldOf, given, kept, suffix, id}
 use Rattle.attribution_reading.specs.Places.{bytes, partOf, partWith, Stands, Scanned}
 use Rattle.attribution_reading.specs.Reads.{FieldsAt, LeadAt, LastIn, LastAt, LastStep, EndsAt}
-use Rattle.attribution_reading.proofs.Laws.{scan-on}
+use Rattle.attribution_reading.proofs.Laws.{other-unquoted, parts-first, scan-on}
 use Rattle.attribution_reading.proofs.Fielding.{length-bytes, part-no, value-of}
 use Rattle.attribution_reading.proofs.Suffix.{after-space, joined-more}
 
@@ -52,6 +52,16 @@ module _ (s : List ℕ) (at : ℕ) (st : Stands s 0 at) where
   pub lead-end : length s ≤ at → LeadAt s (record { from = 0; size = 0; count = 0; next = at })
   unfolding parts
   lead-end le = let d : parts 0 s ≡ [] = st .rest ∙ rw (drop-of-length-le s {i = at} le) in lead-none s at st (rw d)
+
+  pub lead-unquoted : at < length s → isQuote (getD s at 0) ≡ false → LeadAt s (record { from = 0; size = 0; count = 0; next = at })
+  unfolding partAt
+  lead-unquoted lt n =
+      let q = part-no 0 (parts 0 s) (partAt (drop at s)) (parts 0 (drop (at + partSize (drop at s)) s)) (st .rest ∙ parts-first s at lt (st .begins lt)) in
+      lead-none s at st (ap isLeading q ∙ by (keySize (drop at s)) (other-unquoted s at lt n))
+    where
+      by : (k : ℕ) → inQuotes (drop at s) ≡ false → isLeading (readAt k (drop at s)) ≡ false
+      by zero e = rw e
+      by (suc k) e = refl
 
   module _ (p : Place) (sc : Scanned s at p) where
     first-part : partNo 0 (parts 0 s) ≡ partOf s p

@@ -203,19 +203,23 @@ fn is_leading(s: &[u8], p: Place) -> bool
     false
 }
 
+// Only a part that begins with a quote can be one.
 pub fn leading_id(s: &[u8]) -> Lead
     ensures { λ r. ⌜ LeadAt (now (s .entry)) r ⌝ }
 {
     let at = first_at(s);
     if at < s.len() {
-        let p = read_part(s, at);
-        if is_leading(s, p) {
-            return Lead {
-                from: p.from,
-                size: p.size,
-                count: 1,
-                next: p.next,
-            };
+        let q = s[at];
+        if (q == b'"') | (q == b'\'') {
+            let p = read_part(s, at);
+            if is_leading(s, p) {
+                return Lead {
+                    from: p.from,
+                    size: p.size,
+                    count: 1,
+                    next: p.next,
+                };
+            }
         }
     }
     Lead {

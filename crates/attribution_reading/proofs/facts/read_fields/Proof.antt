@@ -4,7 +4,7 @@ use mathlib.Core.Path.{_≡_, refl, sym, ap, _∙_}
 use Prim.Native.Nat.{ℕ, suc, _+_, _-_, _≤_, _<_}
 use mathlib.Core.List.{List, [], _∷_, _++_}
 use lib.ListN.{length, getD}
-use Rattle.attribution_reading.proofs.Fielding.{Reading, read-first, read-text, read-none, read-name, read-post, read-id, read-date, read-time, read-all, keeps-inside}
+use Rattle.attribution_reading.proofs.Fielding.{Reading, read-first, read-text, read-none, read-name, read-post, read-id, read-date, read-time, read-all, keeps-inside, scan-less}
 use Rattle.attribution_reading.proofs.facts.read_fields.Statement.{statement}
 use Rattle.attribution_reading.proofs.facts.read_fields.Tie as tie
 use Rattle.attribution_reading.proofs.facts.read_fields.Reads as reads
@@ -21,7 +21,7 @@ abbrev μ-loop : tie.MeasureT-loop
 μ-loop s name₀ post₀ id₀ date₀ time₀ i₀ at₀ name post id date time i at = length s - at
 
 first-at-requires : tie.Need-first-at-requires Inv-loop μ-loop
-first-at-requires c κs = search needs
+first-at-requires c κs = tt
 
 loop-holds : tie.Need-loop-holds Inv-loop μ-loop
 loop-holds c = read-first _ _ (c .first-at .ensures)
@@ -36,10 +36,10 @@ counts-as-requires : tie.Need-counts-as-requires Inv-loop μ-loop
 counts-as-requires c κs = keeps-inside (c .before .before .read-part .ensures)
 
 earlier-requires : tie.Need-earlier-requires Inv-loop μ-loop
-earlier-requires c κs = search needs
+earlier-requires c κs = tt
 
 loop-less : tie.Need-loop-less Inv-loop μ-loop
-loop-less c = let h = c .before .before .before .before .before .read-part .ensures in omega (arith, h .grows, h .inside)
+loop-less c = scan-less (c .before .before .before .before .before .read-part .ensures)
 
 loop-again : tie.Need-loop-again Inv-loop μ-loop
 loop-again c = rw (c .earlier .ensures) (read-name (c .before .before .before .before .before .before .before .loop .inv) (c .before .before .before .before .before .read-part .ensures) (sym (c .before .before .counts-as .ensures) ∙ c .before .if2 .taken))
@@ -48,10 +48,10 @@ counts-as-requires-2 : tie.Need-counts-as-requires-2 Inv-loop μ-loop
 counts-as-requires-2 c κs = keeps-inside (c .before .before .before .before .read-part .ensures)
 
 earlier-requires-2 : tie.Need-earlier-requires-2 Inv-loop μ-loop
-earlier-requires-2 c κs = search needs
+earlier-requires-2 c κs = tt
 
 loop-less-2 : tie.Need-loop-less-2 Inv-loop μ-loop
-loop-less-2 c = let h = c .before .before .before .before .before .before .before .read-part .ensures in omega (arith, h .grows, h .inside)
+loop-less-2 c = scan-less (c .before .before .before .before .before .before .before .read-part .ensures)
 
 loop-again-2 : tie.Need-loop-again-2 Inv-loop μ-loop
 loop-again-2 c = rw (c .earlier2 .ensures) (read-post (c .before .before .before .before .before .before .before .before .before .loop .inv) (c .before .before .before .before .before .before .before .read-part .ensures) (sym (c .before .before .counts-as2 .ensures) ∙ c .before .if3 .taken))
@@ -60,10 +60,10 @@ counts-as-requires-3 : tie.Need-counts-as-requires-3 Inv-loop μ-loop
 counts-as-requires-3 c κs = keeps-inside (c .before .before .before .before .before .before .read-part .ensures)
 
 earlier-requires-3 : tie.Need-earlier-requires-3 Inv-loop μ-loop
-earlier-requires-3 c κs = search needs
+earlier-requires-3 c κs = tt
 
 loop-less-3 : tie.Need-loop-less-3 Inv-loop μ-loop
-loop-less-3 c = let h = c .before .before .before .before .before .before .before .before .before .read-part .ensures in omega (arith, h .grows, h .inside)
+loop-less-3 c = scan-less (c .before .before .before .before .before .before .before .before .before .read-part .ensures)
 
 loop-again-3 : tie.Need-loop-again-3 Inv-loop μ-loop
 loop-again-3 c = rw (c .earlier3 .ensures) (read-id (c .before .before .before .before .before .before .before .before .before .before .before .loop .inv) (c .before .before .before .before .before .before .before .before .before .read-part .ensures) (sym (c .before .before .counts-as3 .ensures) ∙ c .before .if4 .taken))
@@ -72,10 +72,10 @@ counts-as-requires-4 : tie.Need-counts-as-requires-4 Inv-loop μ-loop
 counts-as-requires-4 c κs = keeps-inside (c .before .before .before .before .before .before .before .before .read-part .ensures)
 
 earlier-requires-4 : tie.Need-earlier-requires-4 Inv-loop μ-loop
-earlier-requires-4 c κs = search needs
+earlier-requires-4 c κs = tt
 
 loop-less-4 : tie.Need-loop-less-4 Inv-loop μ-loop
-loop-less-4 c = let h = c .before .before .before .before .before .before .before .before .before .before .before .read-part .ensures in omega (arith, h .grows, h .inside)
+loop-less-4 c = scan-less (c .before .before .before .before .before .before .before .before .before .before .before .read-part .ensures)
 
 loop-again-4 : tie.Need-loop-again-4 Inv-loop μ-loop
 loop-again-4 c = rw (c .earlier4 .ensures) (read-date (c .before .before .before .before .before .before .before .before .before .before .before .before .before .loop .inv) (c .before .before .before .before .before .before .before .before .before .before .before .read-part .ensures) (sym (c .before .before .counts-as4 .ensures) ∙ c .before .if5 .taken))
@@ -84,22 +84,22 @@ counts-as-requires-5 : tie.Need-counts-as-requires-5 Inv-loop μ-loop
 counts-as-requires-5 c κs = keeps-inside (c .before .before .before .before .before .before .before .before .before .before .read-part .ensures)
 
 earlier-requires-5 : tie.Need-earlier-requires-5 Inv-loop μ-loop
-earlier-requires-5 c κs = search needs
+earlier-requires-5 c κs = tt
 
 loop-less-5 : tie.Need-loop-less-5 Inv-loop μ-loop
-loop-less-5 c = let h = c .before .before .before .before .before .before .before .before .before .before .before .before .before .read-part .ensures in omega (arith, h .grows, h .inside)
+loop-less-5 c = scan-less (c .before .before .before .before .before .before .before .before .before .before .before .before .before .read-part .ensures)
 
 loop-again-5 : tie.Need-loop-again-5 Inv-loop μ-loop
 loop-again-5 c = rw (c .earlier5 .ensures) (read-time (c .before .before .before .before .before .before .before .before .before .before .before .before .before .before .before .loop .inv) (c .before .before .before .before .before .before .before .before .before .before .before .before .before .read-part .ensures) (sym (c .before .before .counts-as5 .ensures) ∙ c .before .if6 .taken))
 
 loop-less-6 : tie.Need-loop-less-6 Inv-loop μ-loop
-loop-less-6 c = let h = c .before .before .before .before .before .before .before .before .before .before .before .before .read-part .ensures in omega (arith, h .grows, h .inside)
+loop-less-6 c = scan-less (c .before .before .before .before .before .before .before .before .before .before .before .before .read-part .ensures)
 
 loop-again-6 : tie.Need-loop-again-6 Inv-loop μ-loop
 loop-again-6 c = read-none (c .before .before .before .before .before .before .before .before .before .before .before .before .before .before .loop .inv) (c .before .before .before .before .before .before .before .before .before .before .before .before .read-part .ensures) (sym (c .before .before .before .before .before .before .before .before .before .counts-as .ensures) ∙ c .before .before .before .before .before .before .before .before .if2 .left) (sym (c .before .before .before .before .before .before .before .counts-as2 .ensures) ∙ c .before .before .before .before .before .before .if3 .left) (sym (c .before .before .before .before .before .counts-as3 .ensures) ∙ c .before .before .before .before .if4 .left) (sym (c .before .before .before .counts-as4 .ensures) ∙ c .before .before .if5 .left) (sym (c .before .counts-as5 .ensures) ∙ c .if6 .left)
 
 loop-less-7 : tie.Need-loop-less-7 Inv-loop μ-loop
-loop-less-7 c = let h = c .before .before .read-part .ensures in omega (arith, h .grows, h .inside)
+loop-less-7 c = scan-less (c .before .before .read-part .ensures)
 
 loop-again-7 : tie.Need-loop-again-7 Inv-loop μ-loop
 loop-again-7 c = read-text (c .before .before .before .before .loop .inv) (c .before .before .read-part .ensures) (c .if1 .left)
