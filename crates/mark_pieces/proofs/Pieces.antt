@@ -96,16 +96,16 @@ module _ (bs ns : List ℕ) (a e : ℕ) (h : a < e) (hb : e ≤ length bs) (hn :
   unescaped escape n p = rw (n, part-last, ← part-to-last) p
 
   -- a piece by its parts
-  pub piece-by : {v v₁ v₂ : List Cell} {at at₁ at₂ : ℕ} (g m b₁ b₂ even touch : Bool)
-      → b₁ ≡ (g && is "}" (getD bs a 0)) → even ≡ evenRun true (drop a (take (e - 1) bs)) → touch ≡ touching m (getD bs (e - 1) 0) → b₂ ≡ (touch && even)
+  pub piece-by : {v v₁ v₂ : List Cell} {at at₁ at₂ : ℕ} (g m b₁ b₂ : Bool)
+      → b₁ ≡ (g && is "}" (getD bs a 0)) → b₂ ≡ (touching m (getD bs (e - 1) 0) && evenRun true (drop a (take (e - 1) bs)))
       → Appends v at v₁ at₁ (backslash b₁) → Appends v₁ at₁ v₂ at₂ (part a (e - 1) (cells bs ns) ++ (backslash b₂ ++ part (e - 1) e (cells bs ns)))
       → Appends v at v₂ at₂ (pieceText g m (part a e (cells bs ns)))
   unfolding pieceText
-  piece-by g m b₁ b₂ even touch e₁ ev et e₂ p q =
+  piece-by g m b₁ b₂ e₁ e₂ p q =
       let first : firstOr absent (part a e (cells bs ns)) ≡ getD bs a 0 = ap (firstOr absent) (part-cons bs ns a e h hb hn) in
       let whole : escapeLast (touching m) true (part a e (cells bs ns)) ≡ part a (e - 1) (cells bs ns) ++ (backslash b₂ ++ part (e - 1) e (cells bs ns)) =
       ap (escapeLast (touching m) true) part-to-last ∙ escape-last (touching m) true (part a (e - 1) (cells bs ns)) last
-      ∙ rw (part-last, e₂, et, ev, part-bytes a (e - 1) bs ns (omega arith) (omega arith)) in
+      ∙ rw (part-last, e₂, part-bytes a (e - 1) bs ns (omega arith) (omega arith)) in
       rw (first, ← e₁, whole) (appends-then p q)
 
 -- ---- a cell put before others

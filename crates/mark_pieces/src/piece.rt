@@ -2,10 +2,10 @@
 use text::PostAt;
 use text::TextAt;
 ghost use mathlib.Core.Path.{_≡_};
-ghost use mathlib.Core.Bool.{true};
+ghost use mathlib.Core.Bool.{true, _&&_};
 ghost use mathlib.Core.List.{_++_};
 ghost use Prim.Native.Nat.{_-_, _≤_, _<_};
-ghost use lib.ListN.{length, take, drop};
+ghost use lib.ListN.{length, take, drop, getD};
 ghost use Rattle.text.specs.Cells.{cells, part, sign};
 ghost use Rattle.text.specs.Writes.{Appends};
 ghost use Rattle.mark_tags.specs.Marks.{touching, backslash, pieceText};
@@ -71,6 +71,20 @@ fn copy_escaped(
     text::write::copy(src, from, a, e, buf, nums, at)
 }
 
+// Whether a text piece from a on whose last byte stands at `last` takes a backslash before it. The backslashes are counted only where it does
+// touch a mark.
+fn escapes_last(src: &[u8], a: usize, last: usize, touches: bool) -> bool
+    requires { ⌜ (a ≤ last) × (last < length (now src)) ⌝ }
+    ensures { λ r. ⌜ r ≡ (touching touches (getD (now (src .entry)) last 0) && evenRun true (drop a (take last (now (src .entry))))) ⌝ }
+{
+    if touches {
+        if is_touching(true, src[last]) {
+            return is_even(src, a, last);
+        }
+    }
+    false
+}
+
 // Appends a text piece that is not empty.
 pub fn write_piece(
     src: &[u8],
@@ -88,10 +102,9 @@ pub fn write_piece(
 {
     let i = a.0;
     let last = e.0 - 1;
-    let even = is_even(src, i, last);
-    let escape = is_touching(touches, src[last]);
+    let escape = escapes_last(src, i, last, touches);
     let start = put_backslash(buf, nums, at, guarded & (src[i] == b'}'));
-    copy_escaped(src, from, a, e, escape & even, buf, nums, start)
+    copy_escaped(src, from, a, e, escape, buf, nums, start)
 }
 
 // Puts a byte that a rule writes before the cells from place p on, of a text that ends at `at`.

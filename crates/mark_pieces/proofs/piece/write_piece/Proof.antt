@@ -10,21 +10,14 @@ use Rattle.mark_pieces.proofs.piece.write_piece.Tie as tie
 use Rattle.mark_pieces.proofs.piece.write_piece.Reads as reads
 use Rattle.mark_pieces.proofs.piece.write_piece.Lts as lts
 use Rattle.mark_pieces.proofs.piece.copy_escaped.Reads as copy-escaped-reads
-use Rattle.mark_pieces.proofs.piece.is_even.Reads as is-even-reads
-use Rattle.mark_pieces.proofs.piece.is_touching.Reads as is-touching-reads
+use Rattle.mark_pieces.proofs.piece.escapes_last.Reads as escapes-last-reads
 use Rattle.mark_pieces.proofs.piece.put_backslash.Reads as put-backslash-reads
 
 sub-last : tie.Need-sub-last
 sub-last c = search needs
 
-is-even-requires : tie.Need-is-even-requires
-is-even-requires c κs = search needs
-
-shared-slice-read-is-touching : tie.Need-shared-slice-read-is-touching
-shared-slice-read-is-touching c = search needs
-
-is-touching-requires : tie.Need-is-touching-requires
-is-touching-requires c κs = search needs
+escapes-last-requires : tie.Need-escapes-last-requires
+escapes-last-requires c κs = search needs
 
 shared-slice-read-put-backslash : tie.Need-shared-slice-read-put-backslash
 shared-slice-read-put-backslash c = search needs
@@ -43,8 +36,8 @@ same-length-2 c = search needs
 
 returns : tie.Need-returns
 returns c =
-    let a = c .before .before .before .before .before .before .before .before .before .before .before .before .before .before .before .before .before .before .before .before .before .before .before in
-    piece-by (a .args .src .now) (a .args .from .now) (a .args .a .0) (a .args .e .0) (a .pre .0) (a .pre .1 .0) (a .pre .1 .1) (a .args .guarded) (a .args .touches) _ _ _ _ refl (c .before .before .before .before .before .before .before .before .before .before .before .before .before .before .before .before .before .is-even .ensures) (c .before .before .before .before .before .before .before .before .before .before .before .before .before .before .before .is-touching .ensures) refl
+    let a = c .before .before .before .before .before .before .before .before .before .before .before .before .before .before .before .before .before .before .before .before .before in
+    piece-by (a .args .src .now) (a .args .from .now) (a .args .a .0) (a .args .e .0) (a .pre .0) (a .pre .1 .0) (a .pre .1 .1) (a .args .guarded) (a .args .touches) _ _ refl (c .before .before .before .before .before .before .before .before .before .before .before .before .before .before .before .escapes-last .ensures)
     (c .before .before .before .before .before .before .before .before .before .before .before .put-backslash .ensures) (c .before .before .before .before .copy-escaped .ensures)
 
 pub write-piece-spec : {M : Type 1} → statement M
@@ -52,9 +45,7 @@ write-piece-spec =
     tie.close
     (tie.spec
     sub-last
-    is-even-requires
-    shared-slice-read-is-touching
-    is-touching-requires
+    escapes-last-requires
     shared-slice-read-put-backslash
     put-backslash-requires
     copy-escaped-requires
