@@ -12,7 +12,7 @@ use marks::pass::marks_pass;
 use post_steps::list::list_text;
 use post_steps::quote::quote_text;
 use quote_lines::search::read_lines;
-use quote_losses::deep::is_too_deep;
+use quote_losses::loss::Listed;
 use quote_losses::loss::list_losses;
 use quotes::refusal_of;
 use text::TextAt;
@@ -96,15 +96,7 @@ fn write_quotes(
     write_lists(q, losses, work, numbers, out, origins, loss_bytes)
 }
 
-// Whether a quote opener is met while 64 quotes are open, in the first n bytes.
-fn is_deep_in(n: usize, out: &[u8]) -> bool
-    requires { ⌜ n ≤ length (now out) ⌝ }
-    ensures { λ r. ⌜ TooDeep (take n (now (out .entry))) r ⌝ }
-{
-    is_too_deep(&out[..n])
-}
-
-// Lists the losses of the first n bytes, with lines in the post: the numbers of their records before `base`.
+// Lists the losses of the first n bytes, with lines in the post, and counts how deep the quotes stand: the numbers of the records before `base`.
 fn list_lost(
     post: &[u8],
     n: usize,
@@ -113,9 +105,9 @@ fn list_lost(
     numbers: &mut [u32],
     base: usize,
     loss_bytes: &mut [u8],
-) -> Counts
+) -> Listed
     requires { ⌜ ((length (now post) ≤ 262144) × ((length (now post) ≤ length (now work)) × (base + length (now post) ≤ length (now numbers)))) × ((n ≤ length (now out)) × (n ≤ 16777216)) ⌝ }
-    ensures { λ r. ⌜ ListsLosses (take n (now (out .entry))) (tags 1 0 (visible (now (post .entry)))) (take base (now (numbers .entry))) (now («loss_bytes» .entry)) (take base (now (numbers .exit))) (now («loss_bytes» .exit)) (r .losses) (r .bytes) ⌝ }
+    ensures { λ r. ⌜ ListsLosses (take n (now (out .entry))) (tags 1 0 (visible (now (post .entry)))) (take base (now (numbers .entry))) (now («loss_bytes» .entry)) (take base (now (numbers .exit))) (now («loss_bytes» .exit)) (r .losses) (r .bytes) × TooDeep (take n (now (out .entry))) (r .deep) ⌝ }
 {
     let own = read_lines(post, work, &mut numbers[base..]);
     let size = own.size;
@@ -145,14 +137,23 @@ fn convert_marked(
     ensures { λ r. ⌜ Ends (lists (quotes caption (take n (cells (now (out .entry)) (now (origins .entry)))))) (lossBytes (take n (cells (now (out .entry)) (now (origins .entry))))) (length (now (out .entry))) (length (now (origins .entry))) (length (now («loss_bytes» .entry))) (marked (take n (cells (now (out .entry)) (now (origins .entry)))) (length (now (out .entry))) lent (length (now («loss_bytes» .entry)))) r (now (out .exit)) (now (origins .exit)) (now («loss_bytes» .exit)) × Noted (lossRecords (now (post .entry)) (take n (cells (now (out .entry)) (now (origins .entry))))) lent r (now (numbers .exit)) ⌝ }
 {
     let base = 5 * post.len();
-    let deep = is_deep_in(n, out);
     let c = list_lost(post, n, out, work, numbers, base, loss_bytes);
-    let many = lent < c.losses;
-    let long = loss_bytes.len() < c.bytes;
-    let refused = refusal_of(deep, many, long);
+    let losses = c.losses;
+    let bytes = c.bytes;
+    let many = lent < losses;
+    let long = loss_bytes.len() < bytes;
+    let refused = refusal_of(c.deep, many, long);
     match refused {
         Checked::Refused(r) => refuse(r, out, origins, loss_bytes),
-        Checked::Fine => write_quotes(n, c, work, &mut numbers[base..], out, origins, loss_bytes),
+        Checked::Fine => write_quotes(
+            n,
+            Counts { losses, bytes },
+            work,
+            &mut numbers[base..],
+            out,
+            origins,
+            loss_bytes,
+        ),
     }
 }
 

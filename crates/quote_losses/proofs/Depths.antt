@@ -51,11 +51,11 @@ module _ {s : List ℕ} {i d : ℕ} (w : Deepening s i d) where
   deepening-on {i'} {d'} z o m = record {
     few = m;
     within = λ le x e. elim (decLe d 64) [
-      yes h ↦ w .within h x e ∙ z h .same x e ∙ rw (le-ltb 64 d' le)
+      | yes h ↦ w .within h x e ∙ z h .same x e ∙ rw (le-ltb 64 d' le)
       | no h ↦ let q = o (omega (arith, h)) in absurd (omega (arith, q, h, le))
     ];
     over = λ lt x e. elim (decLe d 64) [
-      yes h ↦ w .within h x e ∙ z h .same x e ∙ rw (lt-ltb 64 d' lt)
+      | yes h ↦ w .within h x e ∙ z h .same x e ∙ rw (lt-ltb 64 d' lt)
       | no h ↦ w .over (omega (arith, h)) x e
     ];
   }
@@ -63,6 +63,6 @@ module _ {s : List ℕ} {i d : ℕ} (w : Deepening s i d) where
   pub deep-end : length s ≤ i → TooDeep s (ltb 64 d)
   unfolding tooDeepFrom
   deep-end le x e = elim (decLe d 64) [
-    yes h ↦ w .within h x e ∙ ap (tooDeepFrom d) (read-end x s e i le) ∙ sym (le-ltb 64 d h)
+    | yes h ↦ w .within h x e ∙ ap (tooDeepFrom d) (read-end x s e i le) ∙ sym (le-ltb 64 d h)
     | no h ↦ let g : 64 < d = omega (arith, h) in w .over g x e ∙ sym (lt-ltb 64 d g)
   ]

@@ -1,10 +1,10 @@
 // The losses of a text's quotes in the order of their openers, each with its line in the original text. They are listed in lent slices; what
 // does not fit is counted, so refusals 7 and 8 are decided by the counts. The numbers of their records stand before a place `base` of the work
 // numbers, and the tags of the original text from there on.
-use attribution_losses::loss::put_losses;
 use crate::deep::QUOTES_MOST;
 use crate::deep::open_less;
 use crate::deep::open_more;
+use attribution_losses::loss::put_losses;
 use quote_lines::search::attribution_size;
 use quote_lines::search::line_of;
 use quote_tags::tag::tag_at;

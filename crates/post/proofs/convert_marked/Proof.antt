@@ -19,12 +19,9 @@ use Rattle.post.proofs.convert_marked.Lts as lts
 mul-base : tie.Need-mul-base
 mul-base c = search needs
 
-is-deep-in-requires : tie.Need-is-deep-in-requires
-is-deep-in-requires c κs = search needs
-
 list-lost-requires : tie.Need-list-lost-requires
 list-lost-requires c κs =
-    let pre = c .before .before .before .before .before .before .before .before .before .before .before .before .pre in ((pre .0 .0, (omega (arith, pre .1 .0), omega (arith, pre .1 .1 .0))), (pre .0 .1 .0 .0, omega (arith, pre .0 .1 .0 .0, pre .0 .1 .1 .0)))
+    let pre = c .before .before .before .before .before .before .before .before .before .before .pre in ((pre .0 .0, (omega (arith, pre .1 .0), omega (arith, pre .1 .1 .0))), (pre .0 .1 .0 .0, omega (arith, pre .0 .1 .0 .0, pre .0 .1 .1 .0)))
 
 refusal-of-requires : tie.Need-refusal-of-requires
 refusal-of-requires c κs = search needs
@@ -43,28 +40,28 @@ mul-write-quotes c = search needs
 
 sub-write-quotes : tie.Need-sub-write-quotes
 sub-write-quotes c =
-    omega (arith, c .before .before .before .before .before .before .before .before .before .before .before .before .before .before .before .before .before .before .before .before .before .before .before .before .before .pre .1 .1 .0, c .before .before .before .before .before .before .before .before .before .before .before .before .list-lost .kept .1 .1 .1 .1 .0)
+    omega (arith, c .before .before .before .before .before .before .before .before .before .before .before .before .before .before .before .before .before .before .before .before .before .pre .1 .1 .0, c .before .before .before .before .before .before .before .before .before .before .list-lost .kept .1 .1 .1 .1 .0)
 
 part-write-quotes-start : tie.Need-part-write-quotes-start
 part-write-quotes-start c =
-    omega (arith, c .before .before .before .before .before .before .before .before .before .before .before .before .before .before .before .before .before .before .before .before .before .before .before .before .before .pre .1 .1 .0, c .before .before .before .before .before .before .before .before .before .before .before .before .list-lost .kept .1 .1 .1 .1 .0)
+    omega (arith, c .before .before .before .before .before .before .before .before .before .before .before .before .before .before .before .before .before .before .before .before .before .pre .1 .1 .0, c .before .before .before .before .before .before .before .before .before .before .list-lost .kept .1 .1 .1 .1 .0)
 
 part-write-quotes-end : tie.Need-part-write-quotes-end
 part-write-quotes-end c = search needs
 
 write-quotes-requires : tie.Need-write-quotes-requires
 write-quotes-requires c κs =
-    let s = c .before .before .before .before .before .before .before .before .before .before .before .before .before .before .before .before .before .before .before .before .before .before .before .before .before .before .before .before .before .args in
-    let pre = c .before .before .before .before .before .before .before .before .before .before .before .before .before .before .before .before .before .before .before .before .before .before .before .before .before .before .before .before .before .pre in
-    let p = c .before .before .before .before .before .before .before .before .before .before .before .before .before .before .before .before .list-lost in
+    let s = c .before .before .before .before .before .before .before .before .before .before .before .before .before .before .before .before .before .before .before .before .before .before .before .before .before .args in
+    let pre = c .before .before .before .before .before .before .before .before .before .before .before .before .before .before .before .before .before .before .before .before .before .before .before .before .before .pre in
+    let p = c .before .before .before .before .before .before .before .before .before .before .before .before .before .before .list-lost in
     let lw = p .kept .1 .1 .1 .0 in
     let ln = p .kept .1 .1 .1 .1 .0 in
     let lb = p .kept .1 .1 .1 .1 .1 .1 .0 in
     let x = take (s .n) (cells (s .out .now) (s .origins .now)) in
     let e = cells-bytes (s .n) (s .out .now) (s .origins .now) (pre .0 .1 .0 .0) (omega (arith, pre .0 .1 .0 .0, pre .0 .1 .1 .1)) in
     let n = back-long (p .last .1 .1 .1 .1 .0) (5 * length (s .post .now)) in
-    let w = within (c .before .before .before .before .before .before .before .before .before .before .before .before .before .before .before .before .before .before .before .before .before .is-deep-in .result) (s .lent) _ (p .result .losses) (p .result .bytes) (sym (c .before .before .before .before .before .before .before .refusal-of .ensures) ∙ c .before .before .before .before .before .enum-told .given .1) in
-    ((((pre .0 .1 .0 .0, pre .0 .1 .1), (omega (arith, pre .1 .0, lw), (omega (arith, pre .1 .1 .0, ln, n), omega (arith, pre .1 .1 .1, ln, n)))), w .1 .1), c .before .before .before .before .before .before .before .before .before .before .before .before .before .before .before .before .before .before .before .before .before .is-deep-in .ensures x e ∙ w .0)
+    let w = within (c .before .before .before .before .before .before .before .before .before .before .before .before .before .before .list-lost .result .deep) (s .lent) _ (p .result .losses) (p .result .bytes) (sym (c .before .before .before .before .before .before .before .refusal-of .ensures) ∙ c .before .before .before .before .before .enum-told .given .1) in
+    ((((pre .0 .1 .0 .0, pre .0 .1 .1), (omega (arith, pre .1 .0, lw), (omega (arith, pre .1 .1 .0, ln, n), omega (arith, pre .1 .1 .1, ln, n)))), w .1 .1), c .before .before .before .before .before .before .before .before .before .before .before .before .before .before .list-lost .ensures .1 x e ∙ w .0)
 
 same-length : tie.Need-same-length
 same-length c = search needs
@@ -83,17 +80,17 @@ same-length-5 c = search needs
 
 returns : tie.Need-returns
 returns c =
-    let s = c .before .before .before .before .before .before .before .before .before .before .before .before .before .before .before .before .before .before .before .before .before .before .before .before .before .before .before .before .before .before .before .before .before .before .before .args in
-    let pre = c .before .before .before .before .before .before .before .before .before .before .before .before .before .before .before .before .before .before .before .before .before .before .before .before .before .before .before .before .before .before .before .before .before .before .before .pre in
-    let p = c .before .before .before .before .before .before .before .before .before .before .before .before .before .before .before .before .before .before .before .before .before .before .list-lost in
+    let s = c .before .before .before .before .before .before .before .before .before .before .before .before .before .before .before .before .before .before .before .before .before .before .before .before .before .before .before .before .before .before .before .args in
+    let pre = c .before .before .before .before .before .before .before .before .before .before .before .before .before .before .before .before .before .before .before .before .before .before .before .before .before .before .before .before .before .before .before .pre in
+    let p = c .before .before .before .before .before .before .before .before .before .before .before .before .before .before .before .before .before .before .before .before .list-lost in
     let lw = p .kept .1 .1 .1 .0 in
     let ln = p .kept .1 .1 .1 .1 .0 in
     let lb = p .kept .1 .1 .1 .1 .1 .1 .0 in
     let x = take (s .n) (cells (s .out .now) (s .origins .now)) in
     let e = cells-bytes (s .n) (s .out .now) (s .origins .now) (pre .0 .1 .0 .0) (omega (arith, pre .0 .1 .0 .0, pre .0 .1 .1 .1)) in
-    let n = listed-counts (s .post .now) _ _ _ _ _ _ _ (p .ensures) x e in
+    let n = listed-counts (s .post .now) _ _ _ _ _ _ _ (p .ensures .0) x e in
     let r = c .before .before .before .before .before .before .refuse .ensures in
-    (ends-refused _ (marked-by x _ _ _ _ _ _ _ lb (sym (c .before .before .before .before .before .before .before .before .before .before .before .before .before .before .before .before .before .before .before .before .before .before .before .before .before .before .before .is-deep-in .ensures x e)) (n .0) (n .1) ∙ answer-refused _ _ _ (sym (c .before .before .before .before .before .before .before .before .before .before .before .before .before .refusal-of .ensures) ∙ c .before .before .before .before .before .before .before .before .before .before .before .refused .given .1)) (r .0) (rw lb at (r .1)), refused-noted _ _ _ _ _ (r .0))
+    (ends-refused _ (marked-by x _ _ _ _ _ _ _ lb (sym (c .before .before .before .before .before .before .before .before .before .before .before .before .before .before .before .before .before .before .before .before .list-lost .ensures .1 x e)) (n .0) (n .1) ∙ answer-refused _ _ _ (sym (c .before .before .before .before .before .before .before .before .before .before .before .before .before .refusal-of .ensures) ∙ c .before .before .before .before .before .before .before .before .before .before .before .refused .given .1)) (r .0) (rw lb at (r .1)), refused-noted _ _ _ _ _ (r .0))
 
 same-length-6 : tie.Need-same-length-6
 same-length-6 c = search needs
@@ -112,24 +109,24 @@ same-length-10 c = search needs
 
 returns-2 : tie.Need-returns-2
 returns-2 c =
-    let s = c .before .before .before .before .before .before .before .before .before .before .before .before .before .before .before .before .before .before .before .before .before .before .before .before .before .before .before .before .before .before .before .before .before .before .before .before .before .before .before .before .args in
-    let pre = c .before .before .before .before .before .before .before .before .before .before .before .before .before .before .before .before .before .before .before .before .before .before .before .before .before .before .before .before .before .before .before .before .before .before .before .before .before .before .before .before .pre in
-    let p = c .before .before .before .before .before .before .before .before .before .before .before .before .before .before .before .before .before .before .before .before .before .before .before .before .before .before .before .list-lost in
+    let s = c .before .before .before .before .before .before .before .before .before .before .before .before .before .before .before .before .before .before .before .before .before .before .before .before .before .before .before .before .before .before .before .before .before .before .before .before .args in
+    let pre = c .before .before .before .before .before .before .before .before .before .before .before .before .before .before .before .before .before .before .before .before .before .before .before .before .before .before .before .before .before .before .before .before .before .before .before .before .pre in
+    let p = c .before .before .before .before .before .before .before .before .before .before .before .before .before .before .before .before .before .before .before .before .before .before .before .before .before .list-lost in
     let lw = p .kept .1 .1 .1 .0 in
     let ln = p .kept .1 .1 .1 .1 .0 in
     let lb = p .kept .1 .1 .1 .1 .1 .1 .0 in
     let x = take (s .n) (cells (s .out .now) (s .origins .now)) in
     let e = cells-bytes (s .n) (s .out .now) (s .origins .now) (pre .0 .1 .0 .0) (omega (arith, pre .0 .1 .0 .0, pre .0 .1 .1 .1)) in
-    let n = listed-counts (s .post .now) _ _ _ _ _ _ _ (p .ensures) x e in
+    let n = listed-counts (s .post .now) _ _ _ _ _ _ _ (p .ensures .0) x e in
     let f = sym (c .before .before .before .before .before .before .before .before .before .before .before .before .before .before .before .before .before .before .refusal-of .ensures) ∙ c .before .before .before .before .before .before .before .before .before .before .before .before .before .before .before .before .enum-told .given .1 in
-    let w = within (c .before .before .before .before .before .before .before .before .before .before .before .before .before .before .before .before .before .before .before .before .before .before .before .before .before .before .before .before .before .before .before .before .is-deep-in .result) (s .lent) _ (p .result .losses) (p .result .bytes) f in
-    let there = spelled-there (s .post .now) _ _ _ _ _ _ _ (p .ensures) x e (omega (arith, w .1 .1, lb)) in
+    let w = within (c .before .before .before .before .before .before .before .before .before .before .before .before .before .before .before .before .before .before .before .before .before .before .before .before .before .list-lost .result .deep) (s .lent) _ (p .result .losses) (p .result .bytes) f in
+    let there = spelled-there (s .post .now) _ _ _ _ _ _ _ (p .ensures .0) x e (omega (arith, w .1 .1, lb)) in
     let l = length-take-le (s .n) (s .out .now) (pre .0 .1 .0 .0) in
     let i = length-take-le (5 * length (s .post .now)) (s .numbers .now) (omega (arith, pre .1 .1 .0)) in
     let g = rw lb at (c .before .before .before .before .before .before .before .before .before .before .write-quotes .ensures) in (
-      ends-as (ends-spelled _ x _ _ there g) (marked-by x _ _ _ _ _ _ _ lb (sym (c .before .before .before .before .before .before .before .before .before .before .before .before .before .before .before .before .before .before .before .before .before .before .before .before .before .before .before .before .before .before .before .before .is-deep-in .ensures x e)) (n .0) (n .1) ∙ answer-fine _ _ f),
-      quoting-noted _ _ _ (5 * length (s .post .now)) (p .last .1 .1 .1 .1 .0) _ (w .1 .0) (records-there (s .post .now) _ _ _ _ _ _ _ (p .ensures) x e (omega (arith, p .ensures .few, l, i, pre .0 .1 .0 .1)))
-          (omega (arith, p .ensures .few, l, pre .0 .1 .0 .1)) (omega (arith, pre .1 .1 .0, ln)) x _ _ _ (g .answer),
+      ends-as (ends-spelled _ x _ _ there g) (marked-by x _ _ _ _ _ _ _ lb (sym (c .before .before .before .before .before .before .before .before .before .before .before .before .before .before .before .before .before .before .before .before .before .before .before .before .before .list-lost .ensures .1 x e)) (n .0) (n .1) ∙ answer-fine _ _ f),
+      quoting-noted _ _ _ (5 * length (s .post .now)) (p .last .1 .1 .1 .1 .0) _ (w .1 .0) (records-there (s .post .now) _ _ _ _ _ _ _ (p .ensures .0) x e (omega (arith, p .ensures .0 .few, l, i, pre .0 .1 .0 .1)))
+          (omega (arith, p .ensures .0 .few, l, pre .0 .1 .0 .1)) (omega (arith, pre .1 .1 .0, ln)) x _ _ _ (g .answer),
     )
 
 pub convert-marked-spec : {M : Type 1} → statement M
@@ -137,7 +134,6 @@ convert-marked-spec =
     tie.close
     (tie.spec
     mul-base
-    is-deep-in-requires
     list-lost-requires
     refusal-of-requires
     enum-known-refused

@@ -56,7 +56,7 @@ same-length-3 c = search needs
 
 returns : tie.Need-returns
 returns c =
-    let a = c .before .before .before .before .before .before .before .before .before .before .before .before .before .before .before .before .before .before .before .before .before in lists-as (c .before .before .before .before .before .before .before .before .before .before .before .before .before .read-lines .ensures .masked) (front-kept (a .args .numbers .now) _ (a .args .base) (omega (arith, a .pre .0 .1 .1))) (c .before .before .before .before .list-losses .ensures)
+    let a = c .before .before .before .before .before .before .before .before .before .before .before .before .before .before .before .before .before .before .before .before .before in (lists-as (c .before .before .before .before .before .before .before .before .before .before .before .before .before .read-lines .ensures .masked) (front-kept (a .args .numbers .now) _ (a .args .base) (omega (arith, a .pre .0 .1 .1))) (c .before .before .before .before .list-losses .ensures .0), c .before .before .before .before .list-losses .ensures .1)
 
 pub list-lost-spec : {M : Type 1} → statement M
 list-lost-spec =

@@ -134,8 +134,7 @@ add-t46 c =
 returns-2 : tie.Need-returns-2
 returns-2 c =
     let a = c .before .before .before .before .before .before .before .before .before .before .before in
-    let t = c .before .before .before .before .tag-at .ensures in
-    (
+    let t = c .before .before .before .before .tag-at .ensures in (
       lists-closer (a .args .source .now) _ _ _ (a .args .from .at .0) _ _ _ _ (a .pre .0 .0) (a .pre .1 .0 .1) _ (t .0) _ (t .1 .0) (c .before .before .if1 .left) _ (t .1 .1) (c .before .if2 .taken),
       (refl, (λ h. depth-closer (a .args .source .now) (a .args .from .at .0) _ _ (a .pre .0 .0) h (t .1 .0) _ (c .before .before .if1 .left) (t .1 .1) (c .before .if2 .taken) (c .open-less .ensures .0 h), c .open-less .ensures .1)),
     )
@@ -149,8 +148,7 @@ next-byte-requires c κs = search needs
 returns-3 : tie.Need-returns-3
 returns-3 c =
     let a = c .before .before .before .before .before .before .before .before .before .before .before in
-    let t = c .before .before .before .before .tag-at .ensures in
-    (
+    let t = c .before .before .before .before .tag-at .ensures in (
       lists-text (a .args .source .now) _ _ _ (a .args .from .at .0) _ _ _ _ (a .pre .0 .0) (a .pre .1 .0 .1) _ (t .0) _ (t .1 .0) (c .before .before .if1 .left) _ (t .1 .1) (c .before .if2 .left) (c .next-byte .ensures),
       (refl, (λ h. depth-text (a .args .source .now) (a .args .from .at .0) _ _ (a .pre .0 .0) h (t .1 .0) _ (c .before .before .if1 .left) (t .1 .1) (c .before .if2 .left) (c .next-byte .ensures), (λ h. refl, a .pre .1 .0 .0 .1))),
     )
