@@ -4,4 +4,3 @@ pub mod Drawing
 pub mod SlotWriting
 pub mod MarkWriting
 pub mod SlotAsking
-pub mod OneText

@@ -8,13 +8,13 @@ use text::PostAt;
 use text::TextAt;
 use text::write::put_sign;
 ghost use mathlib.Core.Path.{_≡_};
-ghost use mathlib.Core.Bool.{true, cond};
+ghost use mathlib.Core.Bool.{cond};
 ghost use lib.Dec.{eqb};
 ghost use Rattle.text.specs.Cells.{cells};
-ghost use Prim.Native.Nat.{_+_, _-_, _*_, _≤_, _<_};
+ghost use Prim.Native.Nat.{_-_, _≤_, _<_};
 ghost use lib.ListN.{length, getD};
 ghost use Rattle.mark_tags.specs.Marks.{next, marked, touching};
-ghost use Rattle.mark_tags.specs.Flat.{within, slotAt, NextIs, Held, Ready, Answer};
+ghost use Rattle.mark_tags.specs.Flat.{within, slotAt, NextIs, Ready, Answer};
 ghost use Rattle.mark_pieces.specs.Spans.{Slot, SlotWritten, MarkReady, MarkWritten};
 
 // Whether a slot holds text, at some depth: 0 if so, else 1 + the item behind the slot.
@@ -124,94 +124,6 @@ fn last_of(braces: bool, d: u8) -> usize
         return 125;
     }
     d as usize
-}
-
-// Whether the slot that starts at item `from` is one text that is not empty, and ends.
-fn is_one_text(text: &[u8], nums: &[u32], k: usize, from: usize) -> bool
-    requires { ⌜ Held (now text) (now nums) k × (from ≤ k) ⌝ }
-    ensures { λ r. ⌜ (r ≡ true → ((from + 1 < k) × (getD (now (nums .entry)) (2 * length (now (text .entry)) + 2 + from) 0 ≡ 0)) × ((getD (now (nums .entry)) (length (now (text .entry)) + from) 0 < getD (now (nums .entry)) (length (now (text .entry)) + (from + 1)) 0) × (getD (now (nums .entry)) (2 * length (now (text .entry)) + 2 + (from + 1)) 0 ≡ 2))) ⌝ }
-{
-    let n = text.len();
-    if k <= from + 1 {
-        return false;
-    }
-    if nums[2 * n + 2 + from] != 0 {
-        return false;
-    }
-    if nums[n + (from + 1)] <= nums[n + from] {
-        return false;
-    }
-    nums[2 * n + 2 + (from + 1)] == 2
-}
-
-// The same as `write_mark`, of a mark whose slot is one text that is not empty: no slot is entered for it.
-fn write_text_mark(
-    text: &[u8],
-    nums: &[u32],
-    k: usize,
-    i: usize,
-    mask: u32,
-    before: usize,
-    out: &mut [u8],
-    origins: &mut [u32],
-    at: TextAt,
-    spans: &mut [u32],
-    count: usize,
-) -> Drawn
-    requires { ⌜ MarkReady (now text) (now nums) k i mask before (now out) (now origins) count × (((i + 1 + 1 < k) × (getD (now nums) (2 * length (now text) + 2 + (i + 1)) 0 ≡ 0)) × ((getD (now nums) (length (now text) + (i + 1)) 0 < getD (now nums) (length (now text) + (i + 1 + 1)) 0) × (getD (now nums) (2 * length (now text) + 2 + (i + 1 + 1)) 0 ≡ 2))) ⌝ }
-    ensures { λ r. ⌜ MarkWritten (now (text .entry)) (now (nums .entry)) k i before (cells (now (out .entry)) (now (origins .entry))) (at .0) (now (spans .entry)) count (cells (now (out .exit)) (now (origins .exit))) (r .to) (now (spans .exit)) (r .count) (r .item) (r .before) (r .guarded) ⌝ }
-{
-    let n = text.len();
-    let kind = nums[2 * n + 2 + i] % 4;
-    let d = delimiter_of(kind);
-    let a = nums[n + (i + 1)] as usize;
-    let e = nums[n + (i + 1 + 1)] as usize;
-    let p = at.0;
-    let start = put_sign(out, origins, at, d);
-    let body = write_piece(
-        text,
-        nums,
-        PostAt(a),
-        PostAt(e),
-        false,
-        false,
-        out,
-        origins,
-        start,
-    );
-    let end = body.0;
-    let item = i + 1 + 1 + 1;
-    let listed = count + 2;
-    if out.len() < end {
-        return Drawn {
-            item,
-            to: end,
-            count: listed,
-            before: 256,
-            guarded: false,
-        };
-    }
-    let next = next_of(text, nums, k, item, 4 - u32::count_ones(mask) as usize);
-    let closed = finish_mark(
-        out,
-        origins,
-        spans,
-        p,
-        TextAt(end),
-        count,
-        listed,
-        d,
-        before,
-        next_byte(next),
-    );
-    let braces = closed.braces;
-    Drawn {
-        item,
-        to: closed.to,
-        count: listed,
-        before: last_of(braces, d),
-        guarded: !braces & (before == 123),
-    }
 }
 
 // Writes the mark that starts at item i, in a slot where the kinds of a mask are open.
@@ -340,25 +252,6 @@ pub fn write_slot(
             }
         } else if code < 4 {
             i += 1;
-        } else if is_one_text(text, nums, k, i + 1) {
-            let mark = write_text_mark(
-                text,
-                nums,
-                k,
-                i,
-                mask,
-                before,
-                out,
-                origins,
-                TextAt(to),
-                spans,
-                c,
-            );
-            i = mark.item;
-            to = mark.to;
-            c = mark.count;
-            before = mark.before;
-            guarded = mark.guarded;
         } else {
             let j = content(text, nums, k, i + 1, depth - 1);
             if j == 0 {

@@ -15,7 +15,6 @@ use mathlib.Core.Path.{subst}
 use Rattle.mark_writing.proofs.MarkWriting.{last-piece, delimiter-small}
 use Rattle.mark_tags.specs.Flat.{within, beyond, slotAt, NextIs, kindNumbered}
 use Rattle.mark_tags.specs.Marks.{Slots, next, start, write}
-use Rattle.mark_writing.proofs.OneText.{text-some}
 use Rattle.mark_writing.proofs.Slotting.{bounds}
 use Rattle.mark_writing.proofs.Looking.{here-start, mark-deep, mark-ready}
 use Rattle.mark_writing.proofs.SlotWriting.{Drawing, drawing-start, drawn-end, drawn-leave, drawn-gone, drawn-nothing, drawn-text, drawn-empty, drawn-mark, fresh-later}
@@ -34,8 +33,6 @@ use Rattle.mark_pieces.proofs.mark.delimiter_of.Reads as delimiter-of-reads
 use Rattle.mark_pieces.proofs.mark.finish_mark.Reads as finish-mark-reads
 use Rattle.mark_pieces.proofs.piece.write_piece.Reads as write-piece-reads
 use Rattle.mark_writing.proofs.slot.content.Reads as content-reads
-use Rattle.mark_writing.proofs.slot.is_one_text.Reads as is-one-text-reads
-use Rattle.mark_writing.proofs.slot.write_text_mark.Reads as write-text-mark-reads
 use Rattle.mark_writing.proofs.slot.last_of.Reads as last-of-reads
 use Rattle.mark_writing.proofs.slot.next_byte.Reads as next-byte-reads
 use Rattle.mark_writing.proofs.slot.next_of.Reads as next-of-reads
@@ -614,10 +611,6 @@ write-slot-cast-depth : (t : ℕ) → write-slot-lts.Need-cast-depth (
   touches-mark-reads.Learnt,
   write-piece-reads.Asked,
   write-piece-reads.Learnt,
-  is-one-text-reads.Asked,
-  is-one-text-reads.Learnt,
-  write-text-mark-reads.Asked,
-  write-text-mark-reads.Learnt,
   content-reads.Asked,
   content-reads.Learnt,
   write-mark-below t,
@@ -630,10 +623,6 @@ write-slot-sub-depth : (t : ℕ) → write-slot-lts.Need-sub-depth (
   touches-mark-reads.Learnt,
   write-piece-reads.Asked,
   write-piece-reads.Learnt,
-  is-one-text-reads.Asked,
-  is-one-text-reads.Learnt,
-  write-text-mark-reads.Asked,
-  write-text-mark-reads.Learnt,
   content-reads.Asked,
   content-reads.Learnt,
   write-mark-below t,
@@ -646,10 +635,6 @@ write-slot-loop-holds : (t : ℕ) → write-slot-lts.Need-loop-holds (
   touches-mark-reads.Learnt,
   write-piece-reads.Asked,
   write-piece-reads.Learnt,
-  is-one-text-reads.Asked,
-  is-one-text-reads.Learnt,
-  write-text-mark-reads.Asked,
-  write-text-mark-reads.Learnt,
   content-reads.Asked,
   content-reads.Learnt,
   write-mark-below t,
@@ -662,10 +647,6 @@ write-slot-mul-code : (t : ℕ) → write-slot-lts.Need-mul-code (
   touches-mark-reads.Learnt,
   write-piece-reads.Asked,
   write-piece-reads.Learnt,
-  is-one-text-reads.Asked,
-  is-one-text-reads.Learnt,
-  write-text-mark-reads.Asked,
-  write-text-mark-reads.Learnt,
   content-reads.Asked,
   content-reads.Learnt,
   write-mark-below t,
@@ -678,10 +659,6 @@ write-slot-add-code : (t : ℕ) → write-slot-lts.Need-add-code (
   touches-mark-reads.Learnt,
   write-piece-reads.Asked,
   write-piece-reads.Learnt,
-  is-one-text-reads.Asked,
-  is-one-text-reads.Learnt,
-  write-text-mark-reads.Asked,
-  write-text-mark-reads.Learnt,
   content-reads.Asked,
   content-reads.Learnt,
   write-mark-below t,
@@ -694,10 +671,6 @@ write-slot-add-code-2 : (t : ℕ) → write-slot-lts.Need-add-code-2 (
   touches-mark-reads.Learnt,
   write-piece-reads.Asked,
   write-piece-reads.Learnt,
-  is-one-text-reads.Asked,
-  is-one-text-reads.Learnt,
-  write-text-mark-reads.Asked,
-  write-text-mark-reads.Learnt,
   content-reads.Asked,
   content-reads.Learnt,
   write-mark-below t,
@@ -710,10 +683,6 @@ write-slot-mul-code-2 : (t : ℕ) → write-slot-lts.Need-mul-code-2 (
   touches-mark-reads.Learnt,
   write-piece-reads.Asked,
   write-piece-reads.Learnt,
-  is-one-text-reads.Asked,
-  is-one-text-reads.Learnt,
-  write-text-mark-reads.Asked,
-  write-text-mark-reads.Learnt,
   content-reads.Asked,
   content-reads.Learnt,
   write-mark-below t,
@@ -726,10 +695,6 @@ write-slot-shared-slice-read-code : (t : ℕ) → write-slot-lts.Need-shared-sli
   touches-mark-reads.Learnt,
   write-piece-reads.Asked,
   write-piece-reads.Learnt,
-  is-one-text-reads.Asked,
-  is-one-text-reads.Learnt,
-  write-text-mark-reads.Asked,
-  write-text-mark-reads.Learnt,
   content-reads.Asked,
   content-reads.Learnt,
   write-mark-below t,
@@ -737,31 +702,23 @@ write-slot-shared-slice-read-code : (t : ℕ) → write-slot-lts.Need-shared-sli
 ) (write-slot-at t) write-slot.Post write-slot-Inv-loop write-slot-μ-loop
 write-slot-shared-slice-read-code t c = let l = c .before .before .loop in let s = c .before .before .before .before .before .before .before .before .pre .1 in let tb = s .table in let sm = tb .small in let rm = tb .room in let fw = tb .few in search needs
 
-write-slot-add-t35 : (t : ℕ) → write-slot-lts.Need-add-t35 (
+write-slot-add-t34 : (t : ℕ) → write-slot-lts.Need-add-t34 (
   touches-mark-reads.Asked,
   touches-mark-reads.Learnt,
   write-piece-reads.Asked,
   write-piece-reads.Learnt,
-  is-one-text-reads.Asked,
-  is-one-text-reads.Learnt,
-  write-text-mark-reads.Asked,
-  write-text-mark-reads.Learnt,
   content-reads.Asked,
   content-reads.Learnt,
   write-mark-below t,
   write-mark.Post,
 ) (write-slot-at t) write-slot.Post write-slot-Inv-loop write-slot-μ-loop
-write-slot-add-t35 t c = let l = c .before .before .before .loop in let s = c .before .before .before .before .before .before .before .before .before .pre .1 in let tb = s .table in let sm = tb .small in let rm = tb .room in let fw = tb .few in search needs
+write-slot-add-t34 t c = let l = c .before .before .before .loop in let s = c .before .before .before .before .before .before .before .before .before .pre .1 in let tb = s .table in let sm = tb .small in let rm = tb .room in let fw = tb .few in search needs
 
 write-slot-same-length : (t : ℕ) → write-slot-lts.Need-same-length (
   touches-mark-reads.Asked,
   touches-mark-reads.Learnt,
   write-piece-reads.Asked,
   write-piece-reads.Learnt,
-  is-one-text-reads.Asked,
-  is-one-text-reads.Learnt,
-  write-text-mark-reads.Asked,
-  write-text-mark-reads.Learnt,
   content-reads.Asked,
   content-reads.Learnt,
   write-mark-below t,
@@ -774,10 +731,6 @@ write-slot-same-length-2 : (t : ℕ) → write-slot-lts.Need-same-length-2 (
   touches-mark-reads.Learnt,
   write-piece-reads.Asked,
   write-piece-reads.Learnt,
-  is-one-text-reads.Asked,
-  is-one-text-reads.Learnt,
-  write-text-mark-reads.Asked,
-  write-text-mark-reads.Learnt,
   content-reads.Asked,
   content-reads.Learnt,
   write-mark-below t,
@@ -790,10 +743,6 @@ write-slot-same-length-3 : (t : ℕ) → write-slot-lts.Need-same-length-3 (
   touches-mark-reads.Learnt,
   write-piece-reads.Asked,
   write-piece-reads.Learnt,
-  is-one-text-reads.Asked,
-  is-one-text-reads.Learnt,
-  write-text-mark-reads.Asked,
-  write-text-mark-reads.Learnt,
   content-reads.Asked,
   content-reads.Learnt,
   write-mark-below t,
@@ -806,10 +755,6 @@ write-slot-returns : (t : ℕ) → write-slot-lts.Need-returns (
   touches-mark-reads.Learnt,
   write-piece-reads.Asked,
   write-piece-reads.Learnt,
-  is-one-text-reads.Asked,
-  is-one-text-reads.Learnt,
-  write-text-mark-reads.Asked,
-  write-text-mark-reads.Learnt,
   content-reads.Asked,
   content-reads.Learnt,
   write-mark-below t,
@@ -826,10 +771,6 @@ write-slot-add-a : (t : ℕ) → write-slot-lts.Need-add-a (
   touches-mark-reads.Learnt,
   write-piece-reads.Asked,
   write-piece-reads.Learnt,
-  is-one-text-reads.Asked,
-  is-one-text-reads.Learnt,
-  write-text-mark-reads.Asked,
-  write-text-mark-reads.Learnt,
   content-reads.Asked,
   content-reads.Learnt,
   write-mark-below t,
@@ -842,10 +783,6 @@ write-slot-mul-a : (t : ℕ) → write-slot-lts.Need-mul-a (
   touches-mark-reads.Learnt,
   write-piece-reads.Asked,
   write-piece-reads.Learnt,
-  is-one-text-reads.Asked,
-  is-one-text-reads.Learnt,
-  write-text-mark-reads.Asked,
-  write-text-mark-reads.Learnt,
   content-reads.Asked,
   content-reads.Learnt,
   write-mark-below t,
@@ -858,10 +795,6 @@ write-slot-shared-slice-read-a : (t : ℕ) → write-slot-lts.Need-shared-slice-
   touches-mark-reads.Learnt,
   write-piece-reads.Asked,
   write-piece-reads.Learnt,
-  is-one-text-reads.Asked,
-  is-one-text-reads.Learnt,
-  write-text-mark-reads.Asked,
-  write-text-mark-reads.Learnt,
   content-reads.Asked,
   content-reads.Learnt,
   write-mark-below t,
@@ -874,10 +807,6 @@ write-slot-cast-a : (t : ℕ) → write-slot-lts.Need-cast-a (
   touches-mark-reads.Learnt,
   write-piece-reads.Asked,
   write-piece-reads.Learnt,
-  is-one-text-reads.Asked,
-  is-one-text-reads.Learnt,
-  write-text-mark-reads.Asked,
-  write-text-mark-reads.Learnt,
   content-reads.Asked,
   content-reads.Learnt,
   write-mark-below t,
@@ -890,10 +819,6 @@ write-slot-add-e : (t : ℕ) → write-slot-lts.Need-add-e (
   touches-mark-reads.Learnt,
   write-piece-reads.Asked,
   write-piece-reads.Learnt,
-  is-one-text-reads.Asked,
-  is-one-text-reads.Learnt,
-  write-text-mark-reads.Asked,
-  write-text-mark-reads.Learnt,
   content-reads.Asked,
   content-reads.Learnt,
   write-mark-below t,
@@ -906,10 +831,6 @@ write-slot-add-e-2 : (t : ℕ) → write-slot-lts.Need-add-e-2 (
   touches-mark-reads.Learnt,
   write-piece-reads.Asked,
   write-piece-reads.Learnt,
-  is-one-text-reads.Asked,
-  is-one-text-reads.Learnt,
-  write-text-mark-reads.Asked,
-  write-text-mark-reads.Learnt,
   content-reads.Asked,
   content-reads.Learnt,
   write-mark-below t,
@@ -922,10 +843,6 @@ write-slot-mul-e : (t : ℕ) → write-slot-lts.Need-mul-e (
   touches-mark-reads.Learnt,
   write-piece-reads.Asked,
   write-piece-reads.Learnt,
-  is-one-text-reads.Asked,
-  is-one-text-reads.Learnt,
-  write-text-mark-reads.Asked,
-  write-text-mark-reads.Learnt,
   content-reads.Asked,
   content-reads.Learnt,
   write-mark-below t,
@@ -938,10 +855,6 @@ write-slot-shared-slice-read-e : (t : ℕ) → write-slot-lts.Need-shared-slice-
   touches-mark-reads.Learnt,
   write-piece-reads.Asked,
   write-piece-reads.Learnt,
-  is-one-text-reads.Asked,
-  is-one-text-reads.Learnt,
-  write-text-mark-reads.Asked,
-  write-text-mark-reads.Learnt,
   content-reads.Asked,
   content-reads.Learnt,
   write-mark-below t,
@@ -954,10 +867,6 @@ write-slot-cast-e : (t : ℕ) → write-slot-lts.Need-cast-e (
   touches-mark-reads.Learnt,
   write-piece-reads.Asked,
   write-piece-reads.Learnt,
-  is-one-text-reads.Asked,
-  is-one-text-reads.Learnt,
-  write-text-mark-reads.Asked,
-  write-text-mark-reads.Learnt,
   content-reads.Asked,
   content-reads.Learnt,
   write-mark-below t,
@@ -970,10 +879,6 @@ write-slot-add-touches-mark : (t : ℕ) → write-slot-lts.Need-add-touches-mark
   touches-mark-reads.Learnt,
   write-piece-reads.Asked,
   write-piece-reads.Learnt,
-  is-one-text-reads.Asked,
-  is-one-text-reads.Learnt,
-  write-text-mark-reads.Asked,
-  write-text-mark-reads.Learnt,
   content-reads.Asked,
   content-reads.Learnt,
   write-mark-below t,
@@ -986,10 +891,6 @@ write-slot-touches-mark-requires : (t : ℕ) → write-slot-lts.Need-touches-mar
   touches-mark-reads.Learnt,
   write-piece-reads.Asked,
   write-piece-reads.Learnt,
-  is-one-text-reads.Asked,
-  is-one-text-reads.Learnt,
-  write-text-mark-reads.Asked,
-  write-text-mark-reads.Learnt,
   content-reads.Asked,
   content-reads.Learnt,
   write-mark-below t,
@@ -1011,10 +912,6 @@ write-slot-write-piece-requires : (t : ℕ) → write-slot-lts.Need-write-piece-
   touches-mark-reads.Learnt,
   write-piece-reads.Asked,
   write-piece-reads.Learnt,
-  is-one-text-reads.Asked,
-  is-one-text-reads.Learnt,
-  write-text-mark-reads.Asked,
-  write-text-mark-reads.Learnt,
   content-reads.Asked,
   content-reads.Learnt,
   write-mark-below t,
@@ -1032,10 +929,6 @@ write-slot-sub-before : (t : ℕ) → write-slot-lts.Need-sub-before (
   touches-mark-reads.Learnt,
   write-piece-reads.Asked,
   write-piece-reads.Learnt,
-  is-one-text-reads.Asked,
-  is-one-text-reads.Learnt,
-  write-text-mark-reads.Asked,
-  write-text-mark-reads.Learnt,
   content-reads.Asked,
   content-reads.Learnt,
   write-mark-below t,
@@ -1048,10 +941,6 @@ write-slot-shared-slice-read-before : (t : ℕ) → write-slot-lts.Need-shared-s
   touches-mark-reads.Learnt,
   write-piece-reads.Asked,
   write-piece-reads.Learnt,
-  is-one-text-reads.Asked,
-  is-one-text-reads.Learnt,
-  write-text-mark-reads.Asked,
-  write-text-mark-reads.Learnt,
   content-reads.Asked,
   content-reads.Learnt,
   write-mark-below t,
@@ -1069,10 +958,6 @@ write-slot-cast-before : (t : ℕ) → write-slot-lts.Need-cast-before (
   touches-mark-reads.Learnt,
   write-piece-reads.Asked,
   write-piece-reads.Learnt,
-  is-one-text-reads.Asked,
-  is-one-text-reads.Learnt,
-  write-text-mark-reads.Asked,
-  write-text-mark-reads.Learnt,
   content-reads.Asked,
   content-reads.Learnt,
   write-mark-below t,
@@ -1085,10 +970,6 @@ write-slot-add-i : (t : ℕ) → write-slot-lts.Need-add-i (
   touches-mark-reads.Learnt,
   write-piece-reads.Asked,
   write-piece-reads.Learnt,
-  is-one-text-reads.Asked,
-  is-one-text-reads.Learnt,
-  write-text-mark-reads.Asked,
-  write-text-mark-reads.Learnt,
   content-reads.Asked,
   content-reads.Learnt,
   write-mark-below t,
@@ -1101,10 +982,6 @@ write-slot-loop-less : (t : ℕ) → write-slot-lts.Need-loop-less (
   touches-mark-reads.Learnt,
   write-piece-reads.Asked,
   write-piece-reads.Learnt,
-  is-one-text-reads.Asked,
-  is-one-text-reads.Learnt,
-  write-text-mark-reads.Asked,
-  write-text-mark-reads.Learnt,
   content-reads.Asked,
   content-reads.Learnt,
   write-mark-below t,
@@ -1117,10 +994,6 @@ write-slot-loop-again : (t : ℕ) → write-slot-lts.Need-loop-again (
   touches-mark-reads.Learnt,
   write-piece-reads.Asked,
   write-piece-reads.Learnt,
-  is-one-text-reads.Asked,
-  is-one-text-reads.Learnt,
-  write-text-mark-reads.Asked,
-  write-text-mark-reads.Learnt,
   content-reads.Asked,
   content-reads.Learnt,
   write-mark-below t,
@@ -1139,10 +1012,6 @@ write-slot-add-i-2 : (t : ℕ) → write-slot-lts.Need-add-i-2 (
   touches-mark-reads.Learnt,
   write-piece-reads.Asked,
   write-piece-reads.Learnt,
-  is-one-text-reads.Asked,
-  is-one-text-reads.Learnt,
-  write-text-mark-reads.Asked,
-  write-text-mark-reads.Learnt,
   content-reads.Asked,
   content-reads.Learnt,
   write-mark-below t,
@@ -1155,10 +1024,6 @@ write-slot-loop-less-2 : (t : ℕ) → write-slot-lts.Need-loop-less-2 (
   touches-mark-reads.Learnt,
   write-piece-reads.Asked,
   write-piece-reads.Learnt,
-  is-one-text-reads.Asked,
-  is-one-text-reads.Learnt,
-  write-text-mark-reads.Asked,
-  write-text-mark-reads.Learnt,
   content-reads.Asked,
   content-reads.Learnt,
   write-mark-below t,
@@ -1171,10 +1036,6 @@ write-slot-loop-again-2 : (t : ℕ) → write-slot-lts.Need-loop-again-2 (
   touches-mark-reads.Learnt,
   write-piece-reads.Asked,
   write-piece-reads.Learnt,
-  is-one-text-reads.Asked,
-  is-one-text-reads.Learnt,
-  write-text-mark-reads.Asked,
-  write-text-mark-reads.Learnt,
   content-reads.Asked,
   content-reads.Learnt,
   write-mark-below t,
@@ -1192,10 +1053,6 @@ write-slot-add-i-3 : (t : ℕ) → write-slot-lts.Need-add-i-3 (
   touches-mark-reads.Learnt,
   write-piece-reads.Asked,
   write-piece-reads.Learnt,
-  is-one-text-reads.Asked,
-  is-one-text-reads.Learnt,
-  write-text-mark-reads.Asked,
-  write-text-mark-reads.Learnt,
   content-reads.Asked,
   content-reads.Learnt,
   write-mark-below t,
@@ -1208,10 +1065,6 @@ write-slot-loop-less-3 : (t : ℕ) → write-slot-lts.Need-loop-less-3 (
   touches-mark-reads.Learnt,
   write-piece-reads.Asked,
   write-piece-reads.Learnt,
-  is-one-text-reads.Asked,
-  is-one-text-reads.Learnt,
-  write-text-mark-reads.Asked,
-  write-text-mark-reads.Learnt,
   content-reads.Asked,
   content-reads.Learnt,
   write-mark-below t,
@@ -1224,10 +1077,6 @@ write-slot-loop-again-3 : (t : ℕ) → write-slot-lts.Need-loop-again-3 (
   touches-mark-reads.Learnt,
   write-piece-reads.Asked,
   write-piece-reads.Learnt,
-  is-one-text-reads.Asked,
-  is-one-text-reads.Learnt,
-  write-text-mark-reads.Asked,
-  write-text-mark-reads.Learnt,
   content-reads.Asked,
   content-reads.Learnt,
   write-mark-below t,
@@ -1239,66 +1088,73 @@ write-slot-loop-again-3 t c =
     let s = c .before .before .before .before .before .before .before .before .before .before .before .pre .1 in
     (search needs, search needs, search needs, drawn-gone (a .text .now) (a .nums .now) (a .k) (a .from) (a .mask) _ _ _ _ _ _ _ _ (l .i) (l .before) (l .guarded) (l .inv .3) (omega arith) (c .before .if2 .left) (c .before .before .if1 .left) (c .if4 .taken))
 
-write-slot-add-is-one-text : (t : ℕ) → write-slot-lts.Need-add-is-one-text (
+write-slot-add-content : (t : ℕ) → write-slot-lts.Need-add-content (
   touches-mark-reads.Asked,
   touches-mark-reads.Learnt,
   write-piece-reads.Asked,
   write-piece-reads.Learnt,
-  is-one-text-reads.Asked,
-  is-one-text-reads.Learnt,
-  write-text-mark-reads.Asked,
-  write-text-mark-reads.Learnt,
   content-reads.Asked,
   content-reads.Learnt,
   write-mark-below t,
   write-mark.Post,
 ) (write-slot-at t) write-slot.Post write-slot-Inv-loop write-slot-μ-loop
-write-slot-add-is-one-text t c = let l = c .before .before .before .before .before .loop in let s = c .before .before .before .before .before .before .before .before .before .before .before .pre .1 in let sm = s .table .small in let fw = s .table .few in omega arith
+write-slot-add-content t c = let l = c .before .before .before .before .before .loop in let s = c .before .before .before .before .before .before .before .before .before .before .before .pre .1 in let tb = s .table in let sm = tb .small in let rm = tb .room in let fw = tb .few in search needs
 
-write-slot-is-one-text-requires : (t : ℕ) → write-slot-lts.Need-is-one-text-requires (
+write-slot-sub-content : (t : ℕ) → write-slot-lts.Need-sub-content (
   touches-mark-reads.Asked,
   touches-mark-reads.Learnt,
   write-piece-reads.Asked,
   write-piece-reads.Learnt,
-  is-one-text-reads.Asked,
-  is-one-text-reads.Learnt,
-  write-text-mark-reads.Asked,
-  write-text-mark-reads.Learnt,
   content-reads.Asked,
   content-reads.Learnt,
   write-mark-below t,
   write-mark.Post,
 ) (write-slot-at t) write-slot.Post write-slot-Inv-loop write-slot-μ-loop
-write-slot-is-one-text-requires t c κs = let l = c .before .before .before .before .before .loop in let s = c .before .before .before .before .before .before .before .before .before .before .before .pre .1 in (s .table, omega arith)
+write-slot-sub-content t c =
+    let l = c .before .before .before .before .before .loop in
+    let a = c .before .before .before .before .before .before .before .before .before .before .before .args in
+    let s = c .before .before .before .before .before .before .before .before .before .before .before .pre .1 in
+    let d = mark-deep (a .text .now) (a .nums .now) (a .k) (l .i) _ (l .i) (here-start (a .text .now) (a .nums .now) (a .k) (l .i) _ (fresh-ready (a .text .now) (a .nums .now) (a .k) (l .i) (a .mask) (s .table) (omega arith) (s .small) (l .inv .3 .fresh))) (omega arith) (c .if4 .left) in omega arith
 
-write-slot-write-text-mark-requires : (t : ℕ) → write-slot-lts.Need-write-text-mark-requires (
+write-slot-content-requires : (t : ℕ) → write-slot-lts.Need-content-requires (
   touches-mark-reads.Asked,
   touches-mark-reads.Learnt,
   write-piece-reads.Asked,
   write-piece-reads.Learnt,
-  is-one-text-reads.Asked,
-  is-one-text-reads.Learnt,
-  write-text-mark-reads.Asked,
-  write-text-mark-reads.Learnt,
   content-reads.Asked,
   content-reads.Learnt,
   write-mark-below t,
   write-mark.Post,
 ) (write-slot-at t) write-slot.Post write-slot-Inv-loop write-slot-μ-loop
-write-slot-write-text-mark-requires t c κs =
+write-slot-content-requires t c κs =
+    let l = c .before .before .before .before .before .loop in
+    let a = c .before .before .before .before .before .before .before .before .before .before .before .args in
+    let s = c .before .before .before .before .before .before .before .before .before .before .before .pre .1 in
+    mark-ready (a .text .now) (a .nums .now) (a .k) (l .i) _ (l .i) (here-start (a .text .now) (a .nums .now) (a .k) (l .i) _ (fresh-ready (a .text .now) (a .nums .now) (a .k) (l .i) (a .mask) (s .table) (omega arith) (s .small) (l .inv .3 .fresh))) (omega arith) (c .if4 .left)
+
+write-slot-write-mark-requires : (t : ℕ) → write-slot-lts.Need-write-mark-requires (
+  touches-mark-reads.Asked,
+  touches-mark-reads.Learnt,
+  write-piece-reads.Asked,
+  write-piece-reads.Learnt,
+  content-reads.Asked,
+  content-reads.Learnt,
+  write-mark-below t,
+  write-mark.Post,
+) (write-slot-at t) write-slot.Post write-slot-Inv-loop write-slot-μ-loop
+write-slot-write-mark-requires t c κs =
     let l = c .before .before .before .before .before .before .before .before .before .before .loop in
     let a = c .before .before .before .before .before .before .before .before .before .before .before .before .before .before .before .before .args in
     let s = c .before .before .before .before .before .before .before .before .before .before .before .before .before .before .before .before .pre .1 in
-    let one = c .before .before .before .before .is-one-text .ensures (c .before .before .before .if5 .taken) in
     let sh = s .short in let wd = s .wide in (
+      omega arith,
       record {
         slot = record { table = s .table; up-to = omega arith; small = s .small; fresh = l .inv .3 .fresh; short = omega arith; wide = omega arith; few = l .inv .3 .few };
         inside = omega arith;
         mark = c .before .before .before .before .before .if4 .left;
-        some = text-some (a .text .now) (a .nums .now) (a .k) (l .i + 1) (s .table) one;
+        some = c .before .before .before .before .content .ensures .some (c .before .before .before .if5 .taken);
         small = l .inv .3 .small;
       },
-      one,
     )
 
 write-slot-loop-less-4 : (t : ℕ) → write-slot-lts.Need-loop-less-4 (
@@ -1306,10 +1162,6 @@ write-slot-loop-less-4 : (t : ℕ) → write-slot-lts.Need-loop-less-4 (
   touches-mark-reads.Learnt,
   write-piece-reads.Asked,
   write-piece-reads.Learnt,
-  is-one-text-reads.Asked,
-  is-one-text-reads.Learnt,
-  write-text-mark-reads.Asked,
-  write-text-mark-reads.Learnt,
   content-reads.Asked,
   content-reads.Learnt,
   write-mark-below t,
@@ -1317,17 +1169,15 @@ write-slot-loop-less-4 : (t : ℕ) → write-slot-lts.Need-loop-less-4 (
 ) (write-slot-at t) write-slot.Post write-slot-Inv-loop write-slot-μ-loop
 write-slot-loop-less-4 t c =
     let l = c .before .before .before .before .before .before .before .before .before .before .before .before .before .before .before .before .before .loop in
-    let f = c .before .before .before .before .before .before .write-text-mark .ensures .forward in omega arith
+    let a = c .before .before .before .before .before .before .before .before .before .before .before .before .before .before .before .before .before .before .before .before .before .before .before .args in
+    let s = c .before .before .before .before .before .before .before .before .before .before .before .before .before .before .before .before .before .before .before .before .before .before .before .pre .1 in
+    let f = c .before .before .before .before .before .before .write-mark .ensures .forward in omega arith
 
 write-slot-loop-again-4 : (t : ℕ) → write-slot-lts.Need-loop-again-4 (
   touches-mark-reads.Asked,
   touches-mark-reads.Learnt,
   write-piece-reads.Asked,
   write-piece-reads.Learnt,
-  is-one-text-reads.Asked,
-  is-one-text-reads.Learnt,
-  write-text-mark-reads.Asked,
-  write-text-mark-reads.Learnt,
   content-reads.Asked,
   content-reads.Learnt,
   write-mark-below t,
@@ -1337,204 +1187,62 @@ write-slot-loop-again-4 t c =
     let l = c .before .before .before .before .before .before .before .before .before .before .before .before .before .before .before .before .before .loop in
     let a = c .before .before .before .before .before .before .before .before .before .before .before .before .before .before .before .before .before .before .before .before .before .before .before .args in
     let s = c .before .before .before .before .before .before .before .before .before .before .before .before .before .before .before .before .before .before .before .before .before .before .before .pre .1 in
-    let kp = c .before .before .before .before .before .before .write-text-mark .kept in
-    (search needs, search needs, search needs, drawn-mark (a .text .now) (a .nums .now) (a .k) (a .from) (a .mask) _ _ _ _ _ _ _ _ (l .i) (l .before) (l .guarded) (l .inv .3) (omega arith) (c .before .before .before .before .before .before .before .before .before .before .before .before .if4 .left) _ _ _ _ _ _ _ (cells-kept _ _ _ _ (kp .1 .1 .1 .1 .1 .1 .0) (kp .1 .1 .1 .1 .1 .1 .1 .0) (let e₁ = l .inv .0 in let e₂ = l .inv .1 in let wd = s .wide in omega arith)) (cells-kept _ _ _ _ (l .inv .0) (l .inv .1) (s .wide)) (kp .1 .1 .1 .1 .1 .1 .1 .1 .1 .0) (text-some (a .text .now) (a .nums .now) (a .k) (l .i + 1) (s .table) (c .before .before .before .before .before .before .before .before .before .before .before .is-one-text .ensures (c .before .before .before .before .before .before .before .before .before .before .if5 .taken))) (spans-few _ _) (c .before .before .before .before .before .before .write-text-mark .ensures))
-
-write-slot-add-content : (t : ℕ) → write-slot-lts.Need-add-content (
-  touches-mark-reads.Asked,
-  touches-mark-reads.Learnt,
-  write-piece-reads.Asked,
-  write-piece-reads.Learnt,
-  is-one-text-reads.Asked,
-  is-one-text-reads.Learnt,
-  write-text-mark-reads.Asked,
-  write-text-mark-reads.Learnt,
-  content-reads.Asked,
-  content-reads.Learnt,
-  write-mark-below t,
-  write-mark.Post,
-) (write-slot-at t) write-slot.Post write-slot-Inv-loop write-slot-μ-loop
-write-slot-add-content t c = let l = c .before .before .before .before .before .before .before .loop in let s = c .before .before .before .before .before .before .before .before .before .before .before .before .before .pre .1 in let tb = s .table in let sm = tb .small in let rm = tb .room in let fw = tb .few in search needs
-
-write-slot-sub-content : (t : ℕ) → write-slot-lts.Need-sub-content (
-  touches-mark-reads.Asked,
-  touches-mark-reads.Learnt,
-  write-piece-reads.Asked,
-  write-piece-reads.Learnt,
-  is-one-text-reads.Asked,
-  is-one-text-reads.Learnt,
-  write-text-mark-reads.Asked,
-  write-text-mark-reads.Learnt,
-  content-reads.Asked,
-  content-reads.Learnt,
-  write-mark-below t,
-  write-mark.Post,
-) (write-slot-at t) write-slot.Post write-slot-Inv-loop write-slot-μ-loop
-write-slot-sub-content t c =
-    let l = c .before .before .before .before .before .before .before .loop in
-    let a = c .before .before .before .before .before .before .before .before .before .before .before .before .before .args in
-    let s = c .before .before .before .before .before .before .before .before .before .before .before .before .before .pre .1 in
-    let d = mark-deep (a .text .now) (a .nums .now) (a .k) (l .i) _ (l .i) (here-start (a .text .now) (a .nums .now) (a .k) (l .i) _ (fresh-ready (a .text .now) (a .nums .now) (a .k) (l .i) (a .mask) (s .table) (omega arith) (s .small) (l .inv .3 .fresh))) (omega arith) (c .before .before .if4 .left) in omega arith
-
-write-slot-content-requires : (t : ℕ) → write-slot-lts.Need-content-requires (
-  touches-mark-reads.Asked,
-  touches-mark-reads.Learnt,
-  write-piece-reads.Asked,
-  write-piece-reads.Learnt,
-  is-one-text-reads.Asked,
-  is-one-text-reads.Learnt,
-  write-text-mark-reads.Asked,
-  write-text-mark-reads.Learnt,
-  content-reads.Asked,
-  content-reads.Learnt,
-  write-mark-below t,
-  write-mark.Post,
-) (write-slot-at t) write-slot.Post write-slot-Inv-loop write-slot-μ-loop
-write-slot-content-requires t c κs =
-    let l = c .before .before .before .before .before .before .before .loop in
-    let a = c .before .before .before .before .before .before .before .before .before .before .before .before .before .args in
-    let s = c .before .before .before .before .before .before .before .before .before .before .before .before .before .pre .1 in
-    mark-ready (a .text .now) (a .nums .now) (a .k) (l .i) _ (l .i) (here-start (a .text .now) (a .nums .now) (a .k) (l .i) _ (fresh-ready (a .text .now) (a .nums .now) (a .k) (l .i) (a .mask) (s .table) (omega arith) (s .small) (l .inv .3 .fresh))) (omega arith) (c .before .before .if4 .left)
-
-write-slot-write-mark-requires : (t : ℕ) → write-slot-lts.Need-write-mark-requires (
-  touches-mark-reads.Asked,
-  touches-mark-reads.Learnt,
-  write-piece-reads.Asked,
-  write-piece-reads.Learnt,
-  is-one-text-reads.Asked,
-  is-one-text-reads.Learnt,
-  write-text-mark-reads.Asked,
-  write-text-mark-reads.Learnt,
-  content-reads.Asked,
-  content-reads.Learnt,
-  write-mark-below t,
-  write-mark.Post,
-) (write-slot-at t) write-slot.Post write-slot-Inv-loop write-slot-μ-loop
-write-slot-write-mark-requires t c κs =
-    let l = c .before .before .before .before .before .before .before .before .before .before .before .before .loop in
-    let a = c .before .before .before .before .before .before .before .before .before .before .before .before .before .before .before .before .before .before .args in
-    let s = c .before .before .before .before .before .before .before .before .before .before .before .before .before .before .before .before .before .before .pre .1 in
-    let sh = s .short in let wd = s .wide in (
-      omega arith,
-      record {
-        slot = record { table = s .table; up-to = omega arith; small = s .small; fresh = l .inv .3 .fresh; short = omega arith; wide = omega arith; few = l .inv .3 .few };
-        inside = omega arith;
-        mark = c .before .before .before .before .before .before .before .if4 .left;
-        some = c .before .before .before .before .content .ensures .some (c .before .before .before .if6 .taken);
-        small = l .inv .3 .small;
-      },
-    )
-
-write-slot-loop-less-5 : (t : ℕ) → write-slot-lts.Need-loop-less-5 (
-  touches-mark-reads.Asked,
-  touches-mark-reads.Learnt,
-  write-piece-reads.Asked,
-  write-piece-reads.Learnt,
-  is-one-text-reads.Asked,
-  is-one-text-reads.Learnt,
-  write-text-mark-reads.Asked,
-  write-text-mark-reads.Learnt,
-  content-reads.Asked,
-  content-reads.Learnt,
-  write-mark-below t,
-  write-mark.Post,
-) (write-slot-at t) write-slot.Post write-slot-Inv-loop write-slot-μ-loop
-write-slot-loop-less-5 t c =
-    let l = c .before .before .before .before .before .before .before .before .before .before .before .before .before .before .before .before .before .before .before .loop in
-    let a = c .before .before .before .before .before .before .before .before .before .before .before .before .before .before .before .before .before .before .before .before .before .before .before .before .before .args in
-    let s = c .before .before .before .before .before .before .before .before .before .before .before .before .before .before .before .before .before .before .before .before .before .before .before .before .before .pre .1 in
-    let f = c .before .before .before .before .before .before .write-mark .ensures .forward in omega arith
-
-write-slot-loop-again-5 : (t : ℕ) → write-slot-lts.Need-loop-again-5 (
-  touches-mark-reads.Asked,
-  touches-mark-reads.Learnt,
-  write-piece-reads.Asked,
-  write-piece-reads.Learnt,
-  is-one-text-reads.Asked,
-  is-one-text-reads.Learnt,
-  write-text-mark-reads.Asked,
-  write-text-mark-reads.Learnt,
-  content-reads.Asked,
-  content-reads.Learnt,
-  write-mark-below t,
-  write-mark.Post,
-) (write-slot-at t) write-slot.Post write-slot-Inv-loop write-slot-μ-loop
-write-slot-loop-again-5 t c =
-    let l = c .before .before .before .before .before .before .before .before .before .before .before .before .before .before .before .before .before .before .before .loop in
-    let a = c .before .before .before .before .before .before .before .before .before .before .before .before .before .before .before .before .before .before .before .before .before .before .before .before .before .args in
-    let s = c .before .before .before .before .before .before .before .before .before .before .before .before .before .before .before .before .before .before .before .before .before .before .before .before .before .pre .1 in
     let kp = c .before .before .before .before .before .before .write-mark .kept in
-    (search needs, search needs, search needs, drawn-mark (a .text .now) (a .nums .now) (a .k) (a .from) (a .mask) _ _ _ _ _ _ _ _ (l .i) (l .before) (l .guarded) (l .inv .3) (omega arith) (c .before .before .before .before .before .before .before .before .before .before .before .before .before .before .if4 .left) _ _ _ _ _ _ _ (cells-kept _ _ _ _ (kp .1 .1 .1 .1 .1 .1 .0) (kp .1 .1 .1 .1 .1 .1 .1 .0) (let e₁ = l .inv .0 in let e₂ = l .inv .1 in let wd = s .wide in omega arith)) (cells-kept _ _ _ _ (l .inv .0) (l .inv .1) (s .wide)) (kp .1 .1 .1 .1 .1 .1 .1 .1 .1 .0) (c .before .before .before .before .before .before .before .before .before .before .before .content .ensures .some (c .before .before .before .before .before .before .before .before .before .before .if6 .taken)) (spans-few _ _) (c .before .before .before .before .before .before .write-mark .ensures))
+    (search needs, search needs, search needs, drawn-mark (a .text .now) (a .nums .now) (a .k) (a .from) (a .mask) _ _ _ _ _ _ _ _ (l .i) (l .before) (l .guarded) (l .inv .3) (omega arith) (c .before .before .before .before .before .before .before .before .before .before .before .before .if4 .left) _ _ _ _ _ _ _ (cells-kept _ _ _ _ (kp .1 .1 .1 .1 .1 .1 .0) (kp .1 .1 .1 .1 .1 .1 .1 .0) (let e₁ = l .inv .0 in let e₂ = l .inv .1 in let wd = s .wide in omega arith)) (cells-kept _ _ _ _ (l .inv .0) (l .inv .1) (s .wide)) (kp .1 .1 .1 .1 .1 .1 .1 .1 .1 .0) (c .before .before .before .before .before .before .before .before .before .before .before .content .ensures .some (c .before .before .before .before .before .before .before .before .before .before .if5 .taken)) (spans-few _ _) (c .before .before .before .before .before .before .write-mark .ensures))
 
 write-slot-sub-i : (t : ℕ) → write-slot-lts.Need-sub-i (
   touches-mark-reads.Asked,
   touches-mark-reads.Learnt,
   write-piece-reads.Asked,
   write-piece-reads.Learnt,
-  is-one-text-reads.Asked,
-  is-one-text-reads.Learnt,
-  write-text-mark-reads.Asked,
-  write-text-mark-reads.Learnt,
   content-reads.Asked,
   content-reads.Learnt,
   write-mark-below t,
   write-mark.Post,
 ) (write-slot-at t) write-slot.Post write-slot-Inv-loop write-slot-μ-loop
-write-slot-sub-i t c = let z = c .if6 .left in omega arith
+write-slot-sub-i t c = let z = c .if5 .left in omega arith
 
-write-slot-loop-less-6 : (t : ℕ) → write-slot-lts.Need-loop-less-6 (
+write-slot-loop-less-5 : (t : ℕ) → write-slot-lts.Need-loop-less-5 (
   touches-mark-reads.Asked,
   touches-mark-reads.Learnt,
   write-piece-reads.Asked,
   write-piece-reads.Learnt,
-  is-one-text-reads.Asked,
-  is-one-text-reads.Learnt,
-  write-text-mark-reads.Asked,
-  write-text-mark-reads.Learnt,
   content-reads.Asked,
   content-reads.Learnt,
   write-mark-below t,
   write-mark.Post,
 ) (write-slot-at t) write-slot.Post write-slot-Inv-loop write-slot-μ-loop
-write-slot-loop-less-6 t c =
-    let l = c .before .before .before .before .before .before .before .before .before .loop in
-    let a = c .before .before .before .before .before .before .before .before .before .before .before .before .before .before .before .args in
-    let s = c .before .before .before .before .before .before .before .before .before .before .before .before .before .before .before .pre .1 in
-    let z = c .if6 .left in
+write-slot-loop-less-5 t c =
+    let l = c .before .before .before .before .before .before .before .loop in
+    let a = c .before .before .before .before .before .before .before .before .before .before .before .before .before .args in
+    let s = c .before .before .before .before .before .before .before .before .before .before .before .before .before .pre .1 in
+    let z = c .if5 .left in
     let e = c .before .content .ensures .empty (c .before .content .result - 1) (omega arith) in
     let f = e .forward in
     omega arith
 
-write-slot-loop-again-6 : (t : ℕ) → write-slot-lts.Need-loop-again-6 (
+write-slot-loop-again-5 : (t : ℕ) → write-slot-lts.Need-loop-again-5 (
   touches-mark-reads.Asked,
   touches-mark-reads.Learnt,
   write-piece-reads.Asked,
   write-piece-reads.Learnt,
-  is-one-text-reads.Asked,
-  is-one-text-reads.Learnt,
-  write-text-mark-reads.Asked,
-  write-text-mark-reads.Learnt,
   content-reads.Asked,
   content-reads.Learnt,
   write-mark-below t,
   write-mark.Post,
 ) (write-slot-at t) write-slot.Post write-slot-Inv-loop write-slot-μ-loop
-write-slot-loop-again-6 t c =
-    let l = c .before .before .before .before .before .before .before .before .before .loop in
-    let a = c .before .before .before .before .before .before .before .before .before .before .before .before .before .before .before .args in
-    let s = c .before .before .before .before .before .before .before .before .before .before .before .before .before .before .before .pre .1 in
-    let z = c .if6 .left in
-    (search needs, search needs, search needs, drawn-empty (a .text .now) (a .nums .now) (a .k) (a .from) (a .mask) _ _ _ _ _ _ _ _ (l .i) (l .before) (l .guarded) (l .inv .3) (omega arith) (c .before .before .before .before .if4 .left) _ (c .before .content .ensures .empty (c .before .content .result - 1) (omega arith)))
+write-slot-loop-again-5 t c =
+    let l = c .before .before .before .before .before .before .before .loop in
+    let a = c .before .before .before .before .before .before .before .before .before .before .before .before .before .args in
+    let s = c .before .before .before .before .before .before .before .before .before .before .before .before .before .pre .1 in
+    let z = c .if5 .left in
+    (search needs, search needs, search needs, drawn-empty (a .text .now) (a .nums .now) (a .k) (a .from) (a .mask) _ _ _ _ _ _ _ _ (l .i) (l .before) (l .guarded) (l .inv .3) (omega arith) (c .before .before .if4 .left) _ (c .before .content .ensures .empty (c .before .content .result - 1) (omega arith)))
 
 write-slot-same-length-4 : (t : ℕ) → write-slot-lts.Need-same-length-4 (
   touches-mark-reads.Asked,
   touches-mark-reads.Learnt,
   write-piece-reads.Asked,
   write-piece-reads.Learnt,
-  is-one-text-reads.Asked,
-  is-one-text-reads.Learnt,
-  write-text-mark-reads.Asked,
-  write-text-mark-reads.Learnt,
   content-reads.Asked,
   content-reads.Learnt,
   write-mark-below t,
@@ -1547,10 +1255,6 @@ write-slot-same-length-5 : (t : ℕ) → write-slot-lts.Need-same-length-5 (
   touches-mark-reads.Learnt,
   write-piece-reads.Asked,
   write-piece-reads.Learnt,
-  is-one-text-reads.Asked,
-  is-one-text-reads.Learnt,
-  write-text-mark-reads.Asked,
-  write-text-mark-reads.Learnt,
   content-reads.Asked,
   content-reads.Learnt,
   write-mark-below t,
@@ -1563,10 +1267,6 @@ write-slot-same-length-6 : (t : ℕ) → write-slot-lts.Need-same-length-6 (
   touches-mark-reads.Learnt,
   write-piece-reads.Asked,
   write-piece-reads.Learnt,
-  is-one-text-reads.Asked,
-  is-one-text-reads.Learnt,
-  write-text-mark-reads.Asked,
-  write-text-mark-reads.Learnt,
   content-reads.Asked,
   content-reads.Learnt,
   write-mark-below t,
@@ -1579,10 +1279,6 @@ write-slot-returns-2 : (t : ℕ) → write-slot-lts.Need-returns-2 (
   touches-mark-reads.Learnt,
   write-piece-reads.Asked,
   write-piece-reads.Learnt,
-  is-one-text-reads.Asked,
-  is-one-text-reads.Learnt,
-  write-text-mark-reads.Asked,
-  write-text-mark-reads.Learnt,
   content-reads.Asked,
   content-reads.Learnt,
   write-mark-below t,
@@ -1645,10 +1341,6 @@ pub +write-mark+write-slot-spec : {M : Type 1} → statement M
       touches-mark-reads.Learnt,
       write-piece-reads.Asked,
       write-piece-reads.Learnt,
-      is-one-text-reads.Asked,
-      is-one-text-reads.Learnt,
-      write-text-mark-reads.Asked,
-      write-text-mark-reads.Learnt,
       content-reads.Asked,
       content-reads.Learnt,
       write-mark-below t,
@@ -1666,7 +1358,7 @@ pub +write-mark+write-slot-spec : {M : Type 1} → statement M
     (write-slot-add-code-2 t)
     (write-slot-mul-code-2 t)
     (write-slot-shared-slice-read-code t)
-    (write-slot-add-t35 t)
+    (write-slot-add-t34 t)
     (write-slot-same-length t)
     (write-slot-same-length-2 t)
     (write-slot-same-length-3 t)
@@ -1695,20 +1387,15 @@ pub +write-mark+write-slot-spec : {M : Type 1} → statement M
     (write-slot-add-i-3 t)
     (write-slot-loop-less-3 t)
     (write-slot-loop-again-3 t)
-    (write-slot-add-is-one-text t)
-    (write-slot-is-one-text-requires t)
-    (write-slot-write-text-mark-requires t)
-    (write-slot-loop-less-4 t)
-    (write-slot-loop-again-4 t)
     (write-slot-add-content t)
     (write-slot-sub-content t)
     (write-slot-content-requires t)
     (write-slot-write-mark-requires t)
+    (write-slot-loop-less-4 t)
+    (write-slot-loop-again-4 t)
+    (write-slot-sub-i t)
     (write-slot-loop-less-5 t)
     (write-slot-loop-again-5 t)
-    (write-slot-sub-i t)
-    (write-slot-loop-less-6 t)
-    (write-slot-loop-again-6 t)
     (write-slot-same-length-4 t)
     (write-slot-same-length-5 t)
     (write-slot-same-length-6 t)
