@@ -283,9 +283,6 @@ suffix-within (b ∷ s) = by (isSuffix (b ∷ s)) (suffix-within s)
 none-left : (x : List ℕ) (n : ℕ) → n ≡ length x → drop n x ≡ []
 none-left x n e = drop-of-length-le x {i = n} (omega arith)
 
-is-empty : (x : List ℕ) → x ≡ [] → isEmpty x ≡ true
-is-empty x e = rw e
-
 else-some : (x t : List ℕ) → 0 < length x → (orElse x t ≡ x) × (isEmpty x ≡ false)
 else-some [] t h = absurd (omega arith)
 else-some (b ∷ x) t h = (refl, refl)

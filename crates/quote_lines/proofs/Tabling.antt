@@ -309,10 +309,6 @@ module _ (s ns : List ℕ) (t i line count : ℕ) (w : Tabled s ns t i line coun
         let a : getD (drop count (tags 1 0 s)) 0 noTag ≡ getD (tags 1 0 s) count noTag = rw (getD-drop count (tags 1 0 s) 0 noTag, add-zero) in
         sym a ∙ ap (λ (l : List Tag). getD l 0 noTag) split
 
-    -- there is room for it
-    pub tabled-room : {k' : ℕ} → k' ≡ k → i + k' ≤ length s → t + length s ≤ length ns → t + 4 * count + 4 ≤ length ns
-    tabled-room r le lr = let l = opener-long (drop i s) e n in omega (arith, l, r, w .few)
-
     pub tabled-opener : (ns' : List ℕ) {next size : ℕ} → size ≡ k - 8
         → TagAt s ns' (t + 4 * count) line (take size (drop (i + 7) s)) × (take (t + 4 * count) ns' ≡ take (t + 4 * count) ns)
         → (next ≡ linesBehind line (take (i + k - i) (drop i s))) × (next ≤ line + (i + k - i)) → Tabled s ns' t (i + k) next (count + 1)

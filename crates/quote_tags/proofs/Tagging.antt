@@ -11,7 +11,7 @@ use lib.Seq.{drop-cons, drop-drop, take-take, length-take-le}
 use lib.Dec.{ltb}
 use borrow.Author.Tests.{lt-ltb, le-ltb}
 use Rattle.text.specs.Ascii.{begins, toFirst, toBracket, is}
-use Rattle.quote_tags.specs.Tags.{NextBracket, upToBracket, beginsAny, tagSize, openers, openerSize, attributionOf}
+use Rattle.quote_tags.specs.Tags.{upToBracket, beginsAny, tagSize, openers, openerSize, attributionOf}
 
 -- ---- up to the `]` at b
 
@@ -130,7 +130,3 @@ module _ (ws : List (List ℕ)) (s : List ℕ) (i : ℕ) (h : i ≤ length s) {k
       by true true p = omega arith
       by true false p = absurd (n p)
       by false u p = absurd (n p)
-
-  -- the `]` that was kept lies before the place behind a tag
-  pub behind-next : {b : ℕ} (s' : List ℕ) → b ≡ i + toBracket (drop i s) → (k ≡ 0 → ⊥) → NextBracket s' (i + k) b
-  behind-next s' q n le = let t = behind-bracket q n in absurd (omega (arith, t, le))
