@@ -51,6 +51,25 @@ ready-framed bs ns base end at top first second r lt = by (r .state .lists) refl
         framed-here (r .before) bs ns end at top first second (r .state .now) (r .state .second) l ls
         (rw (← e) (r .holds)) (r .fits) (r .within .0) (r .within .1 .0) (r .within .1 .1 .1) (r .within .1 .1 .0)
 
+-- the contents before a list stand behind the base
+pub ready-start : (bs ns : List ℕ) (base end at top first : ℕ) (second : Bool) → Ready bs ns base end at top first second → end < top → base ≤ getD ns (first + 2) 0
+ready-start bs ns base end at top first second r lt = by (r .state .lists) refl
+  where
+    by : (ls : List Open) → r .state .lists ≡ ls → base ≤ getD ns (first + 2) 0
+    by [] e = absurd (let n = no-table (r .before) bs ns end at top first second (r .state) e (r .holds) in omega arith)
+    by (l ∷ ls) e =
+        let s = frame-start (r .before) bs ns end at top first second (r .state .now) (r .state .second) l ls (rw (← e) (r .holds)) (r .fits) (r .within .0) (r .within .1 .0) in
+        let b = r .begins in
+        omega (arith, s, b)
+
+-- what stands before the place where a text is appended stays
+pub kept-before : {bs ns bs' ns' : List ℕ} {end at to : ℕ} {t : List Cell} (base : ℕ) → AppendsIn bs ns end at bs' ns' to t → base ≤ at → at ≤ end
+    → take base (cells bs' ns') ≡ take base (cells bs ns)
+kept-before {bs} {ns} {bs'} {ns'} {end} {at} base p h le =
+    let k : base ≤ end = omega arith in
+    sym (take-take base end (cells bs' ns') k) ∙ sym (take-take base at (take end (cells bs' ns')) h) ∙ ap (take base) (p .appends .keeps)
+    ∙ take-take base at (take end (cells bs ns)) h ∙ take-take base end (cells bs ns) k
+
 -- ---- the block over what the list held
 
 -- a text appended to nothing

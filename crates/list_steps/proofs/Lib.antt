@@ -7,3 +7,4 @@ pub mod Standings
 pub mod Closes
 pub mod Steppings
 pub mod Runs
+pub mod Depths

@@ -274,6 +274,20 @@ module _ (m : ℕ) (x before : List Cell) (bs ns : List ℕ) (base end at top fi
   unfolding part
   next-is = drop-drop (suc n) i (take e before) ∙ (let m : i + suc n ≡ i + n + 1 = omega arith in ap (λ (k : ℕ). drop k (take e before)) m)
 
+  -- what is read at i
+  pub turn-reads : (0 < length (part i e before)) × ((tag ≡ tagAt (part i e before)) × ((n ≡ restWith tag more) × (drop (suc n) (part i e before) ≡ part (i + n + 1) e before)))
+  turn-reads = (let l = rest-length in omega (arith, l, lt), (tag-is, (size-with, next-is)))
+
+  -- where the cells before the base stay
+  pub turn-left : (bs' ns' : List ℕ) → take base (cells bs' ns') ≡ take base (cells bs ns) → end ≤ length bs' → end ≤ length ns'
+      → cells (take (e - i) (drop i bs')) (take (e - i) (drop i ns')) ≡ part i e before
+  unfolding part
+  turn-left bs' ns' k hb' hn' =
+      let b = base-at in
+      let n : e ≡ i + (e - i) = omega arith in
+      cells-sub bs' ns' i (e - i) ∙ sym (part-take (cells bs' ns') i (e - i) (cells-le bs' ns' i (omega arith) (omega arith)))
+      ∙ ap (λ (k : ℕ). drop i (take k (cells bs' ns'))) (sym n) ∙ sym (ap (drop i) (take-take e base (cells bs' ns') le)) ∙ ap (λ (l : List Cell). drop i (take e l)) (k ∙ source)
+
   same-step : takeBy (tagAt (part i e before)) more (part i e before) (w .state) ≡ takeBy tag n (drop i (cells bs ns)) (w .state)
   same-step =
       let z = turn-size .0 in

@@ -8,7 +8,7 @@ use text::trim::is_feed;
 ghost use mathlib.Core.Path.{_≡_};
 ghost use mathlib.Core.Bool.{cond, not};
 ghost use Prim.Native.Nat.{_+_, _≤_, _<_, _%_};
-ghost use lib.ListN.{length, getD};
+ghost use lib.ListN.{length, getD, take};
 ghost use lib.Dec.{eqb, leb};
 ghost use Rattle.text.specs.Cells.{cells};
 ghost use Rattle.text.specs.Writes.{Appends};
@@ -127,7 +127,8 @@ fn turns(kind: u32) -> bool
     true
 }
 
-// Closes the innermost list. The block is built in out and origins, and copied over what the list held.
+// Closes the innermost list. The block is built in out and origins, and copied over what the list held. The cells before base stay, here and in
+// each step, where it does not fit too.
 pub fn close_list(
     st: Machine,
     base: usize,
@@ -138,7 +139,7 @@ pub fn close_list(
     origins: &mut [u32],
 ) -> Machine
     requires { ⌜ Ready (now work) (now numbers) base end (st .at) (st .top) (st .first) (st .second) × ((end < st .top) × ((base + length (now out) ≡ end) × (length (now out) ≤ length (now origins)))) ⌝ }
-    ensures { λ r. ⌜ Steps closeInner base (now (work .entry)) (now (numbers .entry)) end (st .at) (st .top) (st .first) (st .second) (now (work .exit)) (now (numbers .exit)) (r .at) (r .top) (r .first) (r .second) × (r .top < st .top) ⌝ }
+    ensures { λ r. ⌜ Steps closeInner base (now (work .entry)) (now (numbers .entry)) end (st .at) (st .top) (st .first) (st .second) (now (work .exit)) (now (numbers .exit)) (r .at) (r .top) (r .first) (r .second) × (r .top < st .top) × (end < r .at → take base (cells (now (work .exit)) (now (numbers .exit))) ≡ take base (cells (now (work .entry)) (now (numbers .entry)))) ⌝ }
 {
     let at = st.at;
     let top = st.top;

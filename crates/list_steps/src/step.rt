@@ -7,7 +7,7 @@ use text::TextAt;
 use text::area::copy_within;
 ghost use mathlib.Core.Path.{_≡_};
 ghost use mathlib.Core.List.{List};
-ghost use Prim.Native.Nat.{ℕ, _+_, _≤_};
+ghost use Prim.Native.Nat.{ℕ, _+_, _≤_, _<_};
 ghost use lib.ListN.{length, take, drop};
 ghost use Rattle.text.specs.Cells.{Cell, cells};
 ghost use Rattle.list_blocks.specs.Tags.{restOf};
@@ -25,7 +25,7 @@ fn keep(
     numbers: &mut [u32],
 ) -> Machine
     requires { ⌜ Ready (now work) (now numbers) base end (st .at) (st .top) (st .first) (st .second) × (i + n ≤ base) ⌝ }
-    ensures { λ r. ⌜ Steps (kept (take n (drop i (cells (now (work .entry)) (now (numbers .entry)))))) base (now (work .entry)) (now (numbers .entry)) end (st .at) (st .top) (st .first) (st .second) (now (work .exit)) (now (numbers .exit)) (r .at) (r .top) (r .first) (r .second) × (r .top ≤ st .top) ⌝ }
+    ensures { λ r. ⌜ Steps (kept (take n (drop i (cells (now (work .entry)) (now (numbers .entry)))))) base (now (work .entry)) (now (numbers .entry)) end (st .at) (st .top) (st .first) (st .second) (now (work .exit)) (now (numbers .exit)) (r .at) (r .top) (r .first) (r .second) × (r .top ≤ st .top) × (end < r .at → take base (cells (now (work .exit)) (now (numbers .exit))) ≡ take base (cells (now (work .entry)) (now (numbers .entry)))) ⌝ }
 {
     let at = st.at;
     let top = st.top;
@@ -60,7 +60,7 @@ fn kind_of(ordered: bool, second: bool) -> u32
 // Opens a list: a frame more in the table.
 fn open_list(ordered: bool, st: Machine, numbers: &mut [u32]) -> Machine
     requires { ⌜ (st .at ≤ 4294967295) × ((st .first ≤ 4294967295) × ((st .top + 3 ≤ length (now numbers)) × (length (now numbers) ≤ 4294967295))) ⌝ }
-    ensures { λ r. ⌜ ((n base end : ℕ) (bs : List ℕ) (y : List Cell) → st .at ≤ end → end ≤ length bs → Steps (stepBy (Opener n ordered) y) base bs (now (numbers .entry)) end (st .at) (st .top) (st .first) (st .second) bs (now (numbers .exit)) (r .at) (r .top) (r .first) (r .second)) × (r .top ≡ st .top + 3) ⌝ }
+    ensures { λ r. ⌜ ((n base end : ℕ) (bs : List ℕ) (y : List Cell) → st .at ≤ end → end ≤ length bs → Steps (stepBy (Opener n ordered) y) base bs (now (numbers .entry)) end (st .at) (st .top) (st .first) (st .second) bs (now (numbers .exit)) (r .at) (r .top) (r .first) (r .second)) × (r .top ≡ st .top + 3) × (r .at ≡ st .at) ⌝ }
 {
     let at = st.at;
     let top = st.top;
@@ -87,7 +87,7 @@ fn start_item(
     numbers: &mut [u32],
 ) -> Machine
     requires { ⌜ Ready (now work) (now numbers) base end (st .at) (st .top) (st .first) (st .second) × ((i + 3 ≤ base) × (st .top + 1 ≤ length (now numbers))) ⌝ }
-    ensures { λ r. ⌜ Steps (stepBy Item (drop i (cells (now (work .entry)) (now (numbers .entry))))) base (now (work .entry)) (now (numbers .entry)) end (st .at) (st .top) (st .first) (st .second) (now (work .exit)) (now (numbers .exit)) (r .at) (r .top) (r .first) (r .second) × (r .top ≤ st .top + 1) ⌝ }
+    ensures { λ r. ⌜ Steps (stepBy Item (drop i (cells (now (work .entry)) (now (numbers .entry))))) base (now (work .entry)) (now (numbers .entry)) end (st .at) (st .top) (st .first) (st .second) (now (work .exit)) (now (numbers .exit)) (r .at) (r .top) (r .first) (r .second) × (r .top ≤ st .top + 1) × (end < r .at → take base (cells (now (work .exit)) (now (numbers .exit))) ≡ take base (cells (now (work .entry)) (now (numbers .entry)))) ⌝ }
 {
     let at = st.at;
     let top = st.top;
@@ -116,7 +116,7 @@ fn end_list(
     origins: &mut [u32],
 ) -> Machine
     requires { ⌜ Ready (now work) (now numbers) base end (st .at) (st .top) (st .first) (st .second) × ((i + 7 ≤ base) × ((base + length (now out) ≡ end) × (length (now out) ≤ length (now origins)))) ⌝ }
-    ensures { λ r. ⌜ Steps (stepBy Closer (drop i (cells (now (work .entry)) (now (numbers .entry))))) base (now (work .entry)) (now (numbers .entry)) end (st .at) (st .top) (st .first) (st .second) (now (work .exit)) (now (numbers .exit)) (r .at) (r .top) (r .first) (r .second) × (r .top ≤ st .top) ⌝ }
+    ensures { λ r. ⌜ Steps (stepBy Closer (drop i (cells (now (work .entry)) (now (numbers .entry))))) base (now (work .entry)) (now (numbers .entry)) end (st .at) (st .top) (st .first) (st .second) (now (work .exit)) (now (numbers .exit)) (r .at) (r .top) (r .first) (r .second) × (r .top ≤ st .top) × (end < r .at → take base (cells (now (work .exit)) (now (numbers .exit))) ≡ take base (cells (now (work .entry)) (now (numbers .entry)))) ⌝ }
 {
     let top = st.top;
     if top == end {
@@ -139,7 +139,7 @@ pub fn step(
     origins: &mut [u32],
 ) -> Machine
     requires { ⌜ Ready (now work) (now numbers) base end (st .at) (st .top) (st .first) (st .second) × (((i + (1 + n) ≤ base) × (restOf tag ≤ n)) × ((st .top + pushed tag ≤ length (now numbers)) × ((base + length (now out) ≡ end) × (length (now out) ≤ length (now origins))))) ⌝ }
-    ensures { λ r. ⌜ Steps (takeBy tag n (drop i (cells (now (work .entry)) (now (numbers .entry))))) base (now (work .entry)) (now (numbers .entry)) end (st .at) (st .top) (st .first) (st .second) (now (work .exit)) (now (numbers .exit)) (r .at) (r .top) (r .first) (r .second) × (r .top ≤ st .top + pushed tag) ⌝ }
+    ensures { λ r. ⌜ Steps (takeBy tag n (drop i (cells (now (work .entry)) (now (numbers .entry))))) base (now (work .entry)) (now (numbers .entry)) end (st .at) (st .top) (st .first) (st .second) (now (work .exit)) (now (numbers .exit)) (r .at) (r .top) (r .first) (r .second) × (r .top ≤ st .top + pushed tag) × (end < r .at → take base (cells (now (work .exit)) (now (numbers .exit))) ≡ take base (cells (now (work .entry)) (now (numbers .entry)))) ⌝ }
 {
     match tag {
         Tag::Opener(_, ordered) => open_list(ordered, st, numbers),

@@ -25,17 +25,17 @@ use Rattle.lending.specs.declared.lent.Checked.the-variants as C
 use Rattle.lists.specs.Calls.{converted, answerBy, answered, textOf, Called, Converted}
 use Rattle.list_steps.proofs.Needs.{lists-fits}
 
-pub called-deep : (text : List ℕ) (x : List Cell) (m k : ℕ) (r : Listed) (t : Bool) {out plain : List ℕ} → x ≡ cellsOf text → t ≡ tooDeep x → t ≡ true → r ≡ Refused TooDeep
-    → LaidOut [] m k out plain → Converted text m k r out plain
+pub called-deep : (text : List ℕ) (y : List Cell) (m k r : ℕ) (l : Listed) {out plain : List ℕ} → y ≡ cellsOf text → tooDeep y ≡ ltb 18446744073709551614 r → 18446744073709551614 < r
+    → l ≡ Refused TooDeep → LaidOut [] m k out plain → Converted text m k l out plain
 unfolding converted
-called-deep text x m k r t q d e z l =
-    let y : tooDeep (cellsOf text) ≡ true = sym (d ∙ ap tooDeep q) ∙ e in
-    rw z (record { answer = rw y; laid = l })
+called-deep text y m k r l z d far g laid =
+    let f : tooDeep (cellsOf text) ≡ true = ap tooDeep (sym z) ∙ d ∙ lt-ltb 18446744073709551614 r far in
+    rw g (record { answer = rw f; laid = laid })
 
-module _ (text : List ℕ) (x y : List Cell) (m k base end r : ℕ) (t : Bool) (bs ns : List ℕ) (q : x ≡ cellsOf text) (z : y ≡ cellsOf text) (d : t ≡ tooDeep x) (e : t ≡ false)
+module _ (text : List ℕ) (y : List Cell) (m k base end r : ℕ) (bs ns : List ℕ) (z : y ≡ cellsOf text) (d : tooDeep y ≡ ltb 18446744073709551614 r) (near : r ≤ 18446744073709551614)
     (area : base + m ≡ end) (p : Passed m y base end bs ns r) where
   fine : tooDeep (cellsOf text) ≡ false
-  fine = sym (d ∙ ap tooDeep q) ∙ e
+  fine = ap tooDeep (sym z) ∙ d ∙ le-ltb 18446744073709551614 r near
 
   same-need : listsNeed y ≡ listsNeed (cellsOf text)
   same-need = ap listsNeed z

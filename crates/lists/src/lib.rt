@@ -1,10 +1,10 @@
 // Lists to Carve text (document 01, "Lists").
-use depth::too_deep;
 use lending::lent::Checked;
 use lending::lent::Lent;
 use lending::lent::Refusal;
 use lending::lent::Spans;
 use lending::lent::check;
+use list_steps::pass::FULL;
 use list_steps::pass::list_pass;
 use text::PostAt;
 use text::blank::number;
@@ -21,8 +21,6 @@ ghost use Rattle.lists.specs.Calls.{Called, Converted};
 ghost use Rattle.list_blocks.specs.Tags.{tooDeep};
 ghost use Rattle.lists.specs.declared.Listed.the-variants.{Done, Refused};
 
-pub mod depth;
-
 // The length of the text, or why there is none.
 pub enum Listed {
     Done(usize),
@@ -35,14 +33,6 @@ fn refuse(r: Refusal, out: &mut [u8], origins: &mut [u32]) -> Listed
 {
     lay_nothing(out, origins);
     Listed::Refused(r)
-}
-
-// Whether a list opener is met while 64 lists are open, in the first n cells.
-pub fn is_deep(n: usize, work: &[u8], numbers: &[u32]) -> bool
-    requires { ⌜ (n ≤ length (now work)) × (n ≤ length (now numbers)) ⌝ }
-    ensures { λ r. ⌜ r ≡ tooDeep (cells (take n (now (work .entry))) (take n (now (numbers .entry)))) ⌝ }
-{
-    too_deep(&work[..n], &numbers[..n])
 }
 
 // Converts a text that is right, in memory that is large enough.
@@ -60,10 +50,10 @@ fn convert(
     let end = n + out.len();
     number(text, numbers);
     set_source(text, work);
-    if is_deep(n, work, numbers) {
+    let r = list_pass(0, n, n, end, work, numbers, out, origins);
+    if FULL < r {
         return refuse(Refusal::TooDeep, out, origins);
     }
-    let r = list_pass(0, n, n, end, work, numbers, out, origins);
     if end < r {
         return refuse(Refusal::NoSpace, out, origins);
     }

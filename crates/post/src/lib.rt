@@ -5,7 +5,7 @@ use lending::lent::Lent;
 use lending::lent::Refusal;
 use lending::lent::Spans;
 use lending::lent::check;
-use lists::is_deep;
+use list_steps::pass::FULL;
 use losses::Loss;
 use losses::fill;
 use marks::pass::marks_pass;
@@ -63,10 +63,10 @@ fn write_lists(
     requires { ⌜ (((n ≤ length (now out)) × ((length (now out) ≤ 16777216) × (length (now out) ≤ length (now origins)))) × ((2 * length (now out) ≤ length (now work)) × ((3 * length (now out) ≤ length (now numbers)) × (length (now numbers) ≤ 4294967295)))) × (losses .bytes ≤ length (now «loss_bytes»)) ⌝ }
     ensures { λ r. ⌜ Ends (lists (take n (cells (now (work .entry)) (now (numbers .entry))))) (take (losses .bytes) (now («loss_bytes» .entry))) (length (now (out .entry))) (length (now (origins .entry))) (length (now («loss_bytes» .entry))) (listing (take n (cells (now (work .entry)) (now (numbers .entry)))) (length (now (out .entry))) (losses .losses) (losses .bytes)) r (now (out .exit)) (now (origins .exit)) (now («loss_bytes» .exit)) ⌝ }
 {
-    if is_deep(n, work, numbers) {
+    let r = list_text(n, work, numbers, out, origins);
+    if FULL < r {
         return refuse(Refusal::TooDeep, out, origins, loss_bytes);
     }
-    let r = list_text(n, work, numbers, out, origins);
     if out.len() < r {
         return refuse(Refusal::NoSpace, out, origins, loss_bytes);
     }

@@ -5,14 +5,13 @@ use Prim.Native.Nat.{ℕ, suc, _+_, _-_, _≤_, _<_}
 use mathlib.Core.List.{List, [], _∷_, _++_}
 use lib.ListN.{length, getD}
 use lib.ListN.{take}
-use Rattle.text.proofs.Sources.{source-front, source-part}
+use Rattle.text.proofs.Sources.{source-part}
 use Rattle.lists.proofs.Conversion.{called-deep, called-full, called-done, passed-up}
 use Rattle.text.specs.Cells.{cells}
 use Rattle.lists.proofs.convert.Statement.{statement}
 use Rattle.lists.proofs.convert.Tie as tie
 use Rattle.lists.proofs.convert.Reads as reads
 use Rattle.lists.proofs.convert.Lts as lts
-use Rattle.lists.proofs.is_deep.Reads as is-deep-reads
 use Rattle.text.proofs.write.lay_part.Reads as lay-part-reads
 use Rattle.list_steps.proofs.pass.list_pass.Reads as list-pass-reads
 use Rattle.lists.proofs.refuse.Reads as refuse-reads
@@ -27,9 +26,6 @@ number-requires c κs = search needs
 
 set-source-requires : tie.Need-set-source-requires
 set-source-requires c κs = search needs
-
-is-deep-requires : tie.Need-is-deep-requires
-is-deep-requires c κs = search needs
 
 refuse-requires : tie.Need-refuse-requires
 refuse-requires c κs = search needs
@@ -47,8 +43,7 @@ same-length-4 : tie.Need-same-length-4
 same-length-4 c = search needs
 
 returns : tie.Need-returns
-returns c =
-    called-deep _ _ _ _ _ _ (source-front _ _ _ _ refl (c .before .before .before .before .before .before .before .before .before .before .before .before .before .set-source .ensures) (c .before .before .before .before .before .before .before .before .before .before .before .before .before .before .before .before .before .number .ensures)) (c .before .before .before .before .before .before .before .before .is-deep .ensures) (c .before .before .before .before .before .before .before .if1 .taken) (c .before .before .before .before .refuse .ensures .0) (c .before .before .before .before .refuse .ensures .1)
+returns c = let p = c .before .before .before .before .before .before .before .before .before .before .before .before .before .before .before .before in called-deep _ _ _ _ _ _ (source-part _ _ _ _ refl (c .before .before .before .before .before .before .before .before .before .before .before .before .before .before .before .before .before .before .before .before .before .before .before .set-source .ensures) (c .before .before .before .before .before .before .before .before .before .before .before .before .before .before .before .before .before .before .before .before .before .before .before .before .before .before .before .number .ensures)) (p .list-pass .ensures .0) (c .before .before .before .before .before .before .before .if1 .taken) (c .before .before .before .before .refuse .ensures .0) (rw (p .list-pass .kept .1 .1 .1 .1 .1 .1 .0, p .list-pass .kept .1 .1 .1 .1 .1 .1 .1 .0) at (c .before .before .before .before .refuse .ensures .1))
 
 list-pass-requires : tie.Need-list-pass-requires
 list-pass-requires c κs = search needs
@@ -69,26 +64,21 @@ same-length-8 : tie.Need-same-length-8
 same-length-8 c = search needs
 
 returns-2 : tie.Need-returns-2
-returns-2 c =
-    let hb = c .before .before .before .before .before .before .before .before .before .before .before .before .before .before .before .before .before .before .before .before .before .before .before .before .before .before .before .set-source .ensures in
-    let hn = c .before .before .before .before .before .before .before .before .before .before .before .before .before .before .before .before .before .before .before .before .before .before .before .before .before .before .before .before .before .before .before .number .ensures in
-    let p = c .before .before .before .before .before .before .before .before .before .before .before .before .before .before .before .before in
-    called-full _ _ _ _ _ _ _ _ _ _ _ (source-front _ _ _ _ refl hb hn) (source-part _ _ _ _ refl hb hn) (c .before .before .before .before .before .before .before .before .before .before .before .before .before .before .before .before .before .before .before .before .before .before .is-deep .ensures) (c .before .before .before .before .before .before .before .before .before .before .before .before .before .before .before .before .before .before .before .before .before .if1 .left) refl (p .list-pass .ensures)
-    _ (c .before .before .before .before .before .before .before .if2 .taken) (c .before .before .before .before .refuse2 .ensures .0) (rw (p .list-pass .kept .1 .1 .1 .1 .1 .1 .0, p .list-pass .kept .1 .1 .1 .1 .1 .1 .1 .0) at (c .before .before .before .before .refuse2 .ensures .1))
+returns-2 c = let p = c .before .before .before .before .before .before .before .before .before .before .before .before .before .before .before .before .before in let near = c .before .before .before .before .before .before .before .before .if1 .left in called-full _ _ _ _ _ _ _ _ _ (source-part _ _ _ _ refl (c .before .before .before .before .before .before .before .before .before .before .before .before .before .before .before .before .before .before .before .before .before .before .before .before .set-source .ensures) (c .before .before .before .before .before .before .before .before .before .before .before .before .before .before .before .before .before .before .before .before .before .before .before .before .before .before .before .before .number .ensures)) (p .list-pass .ensures .0) near refl (p .list-pass .ensures .1 near) _ (c .before .before .before .before .before .before .before .if2 .taken) (c .before .before .before .before .refuse2 .ensures .0) (rw (p .list-pass .kept .1 .1 .1 .1 .1 .1 .0, p .list-pass .kept .1 .1 .1 .1 .1 .1 .1 .0) at (c .before .before .before .before .refuse2 .ensures .1))
 
 lay-part-requires : tie.Need-lay-part-requires
 lay-part-requires c κs =
-    let p = c .before .before .before .before .before .before .before .before .before .before .before .before .before in
-    let pre = c .before .before .before .before .before .before .before .before .before .before .before .before .before .before .before .before .before .before .before .before .before .before .before .before .before .before .before .before .before .before .before .before .before .before .before .pre in
+    let p = c .before .before .before .before .before .before .before .before .before .before .before .before .before .before in
+    let pre = c .before .before .before .before .before .before .before .before .before .before .before .before .before .before .before .before .before .before .before .before .before .before .before .before .before .before .before .before .before .before .before .before .pre in
     let lw = p .list-pass .kept .1 .1 .1 .1 .0 in
     let ln = p .list-pass .kept .1 .1 .1 .1 .1 .0 in
     let lo = p .list-pass .kept .1 .1 .1 .1 .1 .1 .0 in
     let lg = p .list-pass .kept .1 .1 .1 .1 .1 .1 .1 .0 in
-    let up = passed-up _ _ _ _ _ _ _ refl (p .list-pass .ensures) (c .before .before .before .before .if2 .left) in
+    let up = passed-up _ _ _ _ _ _ _ refl (p .list-pass .ensures .1 (c .before .before .before .before .before .if1 .left)) (c .before .before .before .before .if2 .left) in
     search needs
 
 sub-t9 : tie.Need-sub-t9
-sub-t9 c = let up = passed-up _ _ _ _ _ _ _ refl (c .before .before .before .before .before .before .before .before .before .before .before .before .before .before .before .before .before .before .list-pass .ensures) (c .before .before .before .before .before .before .before .before .before .if2 .left) in omega arith
+sub-t9 c = let up = passed-up _ _ _ _ _ _ _ refl (c .before .before .before .before .before .before .before .before .before .before .before .before .before .before .before .before .before .before .before .list-pass .ensures .1 (c .before .before .before .before .before .before .before .before .before .before .if1 .left)) (c .before .before .before .before .before .before .before .before .before .if2 .left) in omega arith
 
 same-length-9 : tie.Need-same-length-9
 same-length-9 c = search needs
@@ -104,14 +94,11 @@ same-length-12 c = search needs
 
 returns-3 : tie.Need-returns-3
 returns-3 c =
-    let hb = c .before .before .before .before .before .before .before .before .before .before .before .before .before .before .before .before .before .before .before .before .before .before .before .before .before .before .before .before .before .set-source .ensures in
-    let hn = c .before .before .before .before .before .before .before .before .before .before .before .before .before .before .before .before .before .before .before .before .before .before .before .before .before .before .before .before .before .before .before .before .before .number .ensures in
-    let p = c .before .before .before .before .before .before .before .before .before .before .before .before .before .before .before .before .before .before in
+    let p = c .before .before .before .before .before .before .before .before .before .before .before .before .before .before .before .before .before .before .before in
+    let near = c .before .before .before .before .before .before .before .before .before .before .if1 .left in
     let fit = c .before .before .before .before .before .before .before .before .before .if2 .left in
-    let up = passed-up _ _ _ _ _ _ _ refl (p .list-pass .ensures) fit in
-    let laid = rw (p .list-pass .kept .1 .1 .1 .1 .1 .1 .0, p .list-pass .kept .1 .1 .1 .1 .1 .1 .1 .0) at (c .before .before .before .before .lay-part .ensures) in
-    called-done _ _ _ _ _ _ _ _ _ _ _ (source-front _ _ _ _ refl hb hn) (source-part _ _ _ _ refl hb hn) (c .before .before .before .before .before .before .before .before .before .before .before .before .before .before .before .before .before .before .before .before .before .before .before .before .is-deep .ensures) (c .before .before .before .before .before .before .before .before .before .before .before .before .before .before .before .before .before .before .before .before .before .before .before .if1 .left) refl (p .list-pass .ensures)
-    _ fit up refl laid
+    let up = passed-up _ _ _ _ _ _ _ refl (p .list-pass .ensures .1 near) fit in
+    called-done _ _ _ _ _ _ _ _ _ (source-part _ _ _ _ refl (c .before .before .before .before .before .before .before .before .before .before .before .before .before .before .before .before .before .before .before .before .before .before .before .before .before .before .set-source .ensures) (c .before .before .before .before .before .before .before .before .before .before .before .before .before .before .before .before .before .before .before .before .before .before .before .before .before .before .before .before .before .before .number .ensures)) (p .list-pass .ensures .0) near refl (p .list-pass .ensures .1 near) _ fit up refl (rw (p .list-pass .kept .1 .1 .1 .1 .1 .1 .0, p .list-pass .kept .1 .1 .1 .1 .1 .1 .1 .0) at (c .before .before .before .before .lay-part .ensures))
 
 pub convert-spec : {M : Type 1} → statement M
 convert-spec =
@@ -120,14 +107,13 @@ convert-spec =
     add-end
     number-requires
     set-source-requires
-    is-deep-requires
+    list-pass-requires
     refuse-requires
     same-length
     same-length-2
     same-length-3
     same-length-4
     returns
-    list-pass-requires
     refuse-requires-2
     same-length-5
     same-length-6

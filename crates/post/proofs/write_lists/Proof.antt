@@ -4,16 +4,12 @@ use mathlib.Core.Path.{_≡_, refl, sym, ap, _∙_}
 use Prim.Native.Nat.{ℕ, suc, _+_, _-_, _*_, _≤_, _<_}
 use mathlib.Core.List.{List, [], _∷_, _++_}
 use lib.ListN.{length, getD}
-use Rattle.text.proofs.Sources.{cells-taken}
-use Rattle.list_blocks.specs.Tags.{tooDeep}
+use borrow.Author.Tests.{lt-ltb, le-ltb}
 use Rattle.post.proofs.Calling.{ends-refused, cleared-taken, listing-deep, listing-full, listing-done}
 use Rattle.post.proofs.write_lists.Statement.{statement}
 use Rattle.post.proofs.write_lists.Tie as tie
 use Rattle.post.proofs.write_lists.Reads as reads
 use Rattle.post.proofs.write_lists.Lts as lts
-
-is-deep-requires : tie.Need-is-deep-requires
-is-deep-requires c κs = search needs
 
 refuse-requires : tie.Need-refuse-requires
 refuse-requires c κs = search needs
@@ -35,8 +31,10 @@ same-length-5 c = search needs
 
 returns : tie.Need-returns
 returns c =
-    let s = c .before .before .before .before .before .before .before .before .before .before .before .before .before .before .before .before .before .before .before .args in
-    ends-refused _ (listing-deep _ _ _ _ (sym (ap tooDeep (cells-taken (s .n) (s .work .now) (s .numbers .now))) ∙ sym (c .before .before .before .before .before .before .before .before .before .before .before .is-deep .ensures) ∙ c .before .before .before .before .before .before .before .before .before .before .if1 .taken)) (c .before .before .before .before .before .before .refuse .ensures .0) (c .before .before .before .before .before .before .refuse .ensures .1)
+    let p = c .before .before .before .before .before .before .before .before .before .before .before .before .before .before .before .before .before .before .before .list-text in
+    let lo = p .kept .1 .1 .1 .0 in
+    let lg = p .kept .1 .1 .1 .1 .0 in
+    ends-refused _ (listing-deep _ _ _ _ (p .ensures .0 ∙ lt-ltb 18446744073709551614 _ (c .before .before .before .before .before .before .before .before .before .before .if1 .taken))) (c .before .before .before .before .before .before .refuse .ensures .0) (rw (lo, lg) at (c .before .before .before .before .before .before .refuse .ensures .1))
 
 list-text-requires : tie.Need-list-text-requires
 list-text-requires c κs = search needs
@@ -61,12 +59,11 @@ same-length-10 c = search needs
 
 returns-2 : tie.Need-returns-2
 returns-2 c =
-    let s = c .before .before .before .before .before .before .before .before .before .before .before .before .before .before .before .before .before .before .before .before .before .before .before .before .before .before .before .before .before .before .before .before .before .args in
-    let p = c .before .before .before .before .before .before .before .before .before .before .before .before .before .before .before .before .before .before .before .list-text in
-    let fine = sym (ap tooDeep (cells-taken (s .n) (s .work .now) (s .numbers .now))) ∙ sym (c .before .before .before .before .before .before .before .before .before .before .before .before .before .before .before .before .before .before .before .before .before .before .before .before .before .is-deep .ensures) ∙ c .before .before .before .before .before .before .before .before .before .before .before .before .before .before .before .before .before .before .before .before .before .before .before .before .if1 .left in
+    let p = c .before .before .before .before .before .before .before .before .before .before .before .before .before .before .before .before .before .before .before .before .list-text in
+    let near = c .before .before .before .before .before .before .before .before .before .before .before .if1 .left in
     let lo = p .kept .1 .1 .1 .0 in
     let lg = p .kept .1 .1 .1 .1 .0 in
-    ends-refused _ (listing-full _ _ _ _ fine _ _ _ _ (p .ensures) (omega (arith, lo, c .before .before .before .before .before .before .before .before .before .before .if2 .taken))) (c .before .before .before .before .before .before .refuse2 .ensures .0) (rw (lo, lg) at (c .before .before .before .before .before .before .refuse2 .ensures .1))
+    ends-refused _ (listing-full _ _ _ _ (p .ensures .0 ∙ le-ltb 18446744073709551614 _ near) _ _ _ _ (p .ensures .1 near) (omega (arith, lo, c .before .before .before .before .before .before .before .before .before .before .if2 .taken))) (c .before .before .before .before .before .before .refuse2 .ensures .0) (rw (lo, lg) at (c .before .before .before .before .before .before .refuse2 .ensures .1))
 
 zero8-requires : tie.Need-zero8-requires
 zero8-requires c κs = search needs
@@ -88,17 +85,17 @@ same-length-15 c = search needs
 
 returns-3 : tie.Need-returns-3
 returns-3 c =
-    let s = c .before .before .before .before .before .before .before .before .before .before .before .before .before .before .before .before .before .before .before .before .before .before .before .before .before .before .before .args in
-    let p = c .before .before .before .before .before .before .before .before .before .before .before .before .before .list-text in
-    let fine = sym (ap tooDeep (cells-taken (s .n) (s .work .now) (s .numbers .now))) ∙ sym (c .before .before .before .before .before .before .before .before .before .before .before .before .before .before .before .before .before .before .before .is-deep .ensures) ∙ c .before .before .before .before .before .before .before .before .before .before .before .before .before .before .before .before .before .before .if1 .left in
+    let s = c .before .before .before .before .before .before .before .before .before .before .before .before .before .before .before .before .before .before .before .before .before .before .before .before .args in
+    let p = c .before .before .before .before .before .before .before .before .before .before .before .before .before .before .list-text in
+    let near = c .before .before .before .before .before .if1 .left in
     let lo = p .kept .1 .1 .1 .0 in
-    listing-done _ _ _ _ fine _ _ _ _ (p .ensures) (omega (arith, lo, c .before .before .before .before .if2 .left)) (c .before .before .zero8 .ensures ∙ cleared-taken (s .losses .bytes) (s .loss-bytes .now) _ (c .before .before .before .before .before .before .before .before .before .before .before .before .before .before .before .before .before .before .before .before .before .before .before .before .before .before .before .pre .1) refl)
+    listing-done _ _ _ _ (p .ensures .0 ∙ le-ltb 18446744073709551614 _ near) _ _ _ _ (p .ensures .1 near) (omega (arith, lo, c .before .before .before .before .if2 .left)) (c .before .before .zero8 .ensures ∙ cleared-taken (s .losses .bytes) (s .loss-bytes .now) _ (c .before .before .before .before .before .before .before .before .before .before .before .before .before .before .before .before .before .before .before .before .before .before .before .before .pre .1) refl)
 
 pub write-lists-spec : {M : Type 1} → statement M
 write-lists-spec =
     tie.close
     (tie.spec
-    is-deep-requires
+    list-text-requires
     refuse-requires
     same-length
     same-length-2
@@ -106,7 +103,6 @@ write-lists-spec =
     same-length-4
     same-length-5
     returns
-    list-text-requires
     refuse-requires-2
     same-length-6
     same-length-7

@@ -5,7 +5,7 @@ use Prim.Native.Nat.{ℕ, suc, _+_, _-_, _≤_, _<_}
 use mathlib.Core.List.{List, [], _∷_, _++_}
 use lib.ListN.{length, getD}
 use Rattle.list_blocks.proofs.Values.{cells-length}
-use Rattle.list_steps.proofs.Closes.{ready-framed, closes-done, closes-full}
+use Rattle.list_steps.proofs.Closes.{ready-framed, ready-start, kept-before, closes-done, closes-full}
 use Rattle.list_steps.proofs.close.close_list.Statement.{statement}
 use Rattle.list_steps.proofs.close.close_list.Tie as tie
 use Rattle.list_steps.proofs.close.close_list.Reads as reads
@@ -63,7 +63,7 @@ same-length-4 : tie.Need-same-length-4
 same-length-4 c = search needs
 
 returns : tie.Need-returns
-returns c = let p = c .before .before .before .before .before .before .before .before .before .before .before .before .before .before .before .before .before .before .pre in let y = c .before .before .before .before .before .put-closing .last in let lo = cells-length (y .1 .1 .1 .1 .1 .1 .0) (y .1 .1 .1 .1 .1 .1 .1 .0) (omega (arith, p .1 .1 .1)) in let fr = ready-framed _ _ _ _ _ _ _ _ (p .0) (p .1 .0) in (closes-full _ _ _ _ _ _ _ _ (p .0 .within .0) (p .0 .within .1 .0) (p .0 .fits) (p .1 .0) (c .before .before .before .before .before .put-closing .ensures) _ (c .before .before .before .before .before .before .before .before .before .before .turns .ensures) 18446744073709551615 (omega (arith, lo, p .1 .1 .0)) (omega (arith, lo, c .if1 .taken)) (omega (arith, p .0 .within .1 .0, p .0 .within .1 .1 .0)), omega (arith, fr .inner .1))
+returns c = let p = c .before .before .before .before .before .before .before .before .before .before .before .before .before .before .before .before .before .before .pre in let y = c .before .before .before .before .before .put-closing .last in let lo = cells-length (y .1 .1 .1 .1 .1 .1 .0) (y .1 .1 .1 .1 .1 .1 .1 .0) (omega (arith, p .1 .1 .1)) in let fr = ready-framed _ _ _ _ _ _ _ _ (p .0) (p .1 .0) in (closes-full _ _ _ _ _ _ _ _ (p .0 .within .0) (p .0 .within .1 .0) (p .0 .fits) (p .1 .0) (c .before .before .before .before .before .put-closing .ensures) _ (c .before .before .before .before .before .before .before .before .before .before .turns .ensures) 18446744073709551615 (omega (arith, lo, p .1 .1 .0)) (omega (arith, lo, c .if1 .taken)) (omega (arith, p .0 .within .1 .0, p .0 .within .1 .1 .0)), omega (arith, fr .inner .1), λ far. refl)
 
 copy-in-requires : tie.Need-copy-in-requires
 copy-in-requires c κs = let p = c .before .before .before .before .before .before .before .before .before .before .before .before .before .before .before .before .before .before .before .before .before .before .pre in ((omega arith, (omega (arith, c .before .before .before .before .if1 .left), omega (arith, c .before .before .before .before .if1 .left, p .1 .1 .1))), (p .0 .within .0, p .0 .within .1 .0))
@@ -81,7 +81,7 @@ same-length-8 : tie.Need-same-length-8
 same-length-8 c = search needs
 
 returns-2 : tie.Need-returns-2
-returns-2 c = let p = c .before .before .before .before .before .before .before .before .before .before .before .before .before .before .before .before .before .before .before .before .before .before .before .before .before .before .before .pre in let y = c .before .before .before .before .before .before .before .before .before .before .before .before .before .before .put-closing .last in let lo = cells-length (y .1 .1 .1 .1 .1 .1 .0) (y .1 .1 .1 .1 .1 .1 .1 .0) (omega (arith, p .1 .1 .1)) in let fr = ready-framed _ _ _ _ _ _ _ _ (p .0) (p .1 .0) in (closes-done _ _ _ _ _ _ _ _ (p .0 .within .0) (p .0 .within .1 .0) (p .0 .fits) (p .1 .0) (c .before .before .before .before .before .before .before .before .before .before .before .before .before .before .put-closing .ensures) _ (c .before .before .before .before .before .before .before .before .before .before .before .before .before .before .before .before .before .before .before .turns .ensures) _ _ _ (search needs) (omega (arith, lo, c .before .before .before .before .before .before .before .before .before .if1 .left)) (c .before .before .before .before .copy-in .ensures), omega (arith, fr .inner .1))
+returns-2 c = let p = c .before .before .before .before .before .before .before .before .before .before .before .before .before .before .before .before .before .before .before .before .before .before .before .before .before .before .before .pre in let y = c .before .before .before .before .before .before .before .before .before .before .before .before .before .before .put-closing .last in let lo = cells-length (y .1 .1 .1 .1 .1 .1 .0) (y .1 .1 .1 .1 .1 .1 .1 .0) (omega (arith, p .1 .1 .1)) in let fr = ready-framed _ _ _ _ _ _ _ _ (p .0) (p .1 .0) in (closes-done _ _ _ _ _ _ _ _ (p .0 .within .0) (p .0 .within .1 .0) (p .0 .fits) (p .1 .0) (c .before .before .before .before .before .before .before .before .before .before .before .before .before .before .put-closing .ensures) _ (c .before .before .before .before .before .before .before .before .before .before .before .before .before .before .before .before .before .before .before .turns .ensures) _ _ _ (search needs) (omega (arith, lo, c .before .before .before .before .before .before .before .before .before .if1 .left)) (c .before .before .before .before .copy-in .ensures), omega (arith, fr .inner .1), λ far. kept-before _ (c .before .before .before .before .copy-in .ensures) (ready-start _ _ _ _ _ _ _ _ (p .0) (p .1 .0)) (omega (arith, fr .start, p .0 .fits)))
 
 pub close-list-spec : {M : Type 1} → statement M
 close-list-spec =

@@ -38,7 +38,7 @@ same-length-4 : tie.Need-same-length-4 Inv-loop μ-loop
 same-length-4 c = search needs
 
 returns : tie.Need-returns Inv-loop μ-loop
-returns c = let l = c .before .before .before .before .before .before .before .before .before .before .before .before .before .before .before .loop .inv in let p = c .before .before .before .before .before .before .before .before .before .before .before .before .before .before .before .before .before .before .before .before .pre in λ x before lb w. let r = l .5 in passed-full _ x _ _ _ _ _ (finish-over _ x before _ _ _ _ _ _ _ _ (l .6 x before lb w) lb (p .1 .0) (r .fits) (r .within .0) (r .within .1 .0) (omega (arith, l .4, c .before .before .before .before .before .before .before .before .before .before .before .before .before .before .loop-test .taken)) _ _ _ _ _ _ (c .before .before .before .before .before .before .before .before .before .close-list .ensures .0) (omega (arith, r .within .0)) (omega (arith, r .within .1 .0)) (c .if1 .taken)) (omega (arith, r .within .1 .0, r .within .1 .1 .0))
+returns c = let l = c .before .before .before .before .before .before .before .before .before .before .before .before .before .before .before .loop .inv in let p = c .before .before .before .before .before .before .before .before .before .before .before .before .before .before .before .before .before .before .before .before .pre in (λ x before lb w. let r = l .5 in passed-full _ x _ _ _ _ _ (finish-over _ x before _ _ _ _ _ _ _ _ (l .6 x before lb w) lb (p .1 .0) (r .fits) (r .within .0) (r .within .1 .0) (omega (arith, l .4, c .before .before .before .before .before .before .before .before .before .before .before .before .before .before .loop-test .taken)) _ _ _ _ _ _ (c .before .before .before .before .before .before .before .before .before .close-list .ensures .0) (omega (arith, r .within .0)) (omega (arith, r .within .1 .0)) (c .if1 .taken)) (omega (arith, r .within .1 .0, r .within .1 .1 .0)), omega arith)
 
 loop-less : tie.Need-loop-less Inv-loop μ-loop
 loop-less c = omega (arith, c .before .before .before .before .before .before .before .before .before .before .before .before .before .before .before .loop .inv .4, c .before .before .before .before .before .before .before .before .before .close-list .ensures .1)
@@ -59,7 +59,7 @@ same-length-8 : tie.Need-same-length-8 Inv-loop μ-loop
 same-length-8 c = search needs
 
 returns-2 : tie.Need-returns-2 Inv-loop μ-loop
-returns-2 c = let l = c .before .loop .inv in let p = c .before .before .before .before .before .before .pre in let r = l .5 in λ x before lb w. let v = l .6 x before lb w in passed-done _ x before _ _ _ _ _ _ _ _ v (none-open _ _ _ _ _ _ _ _ _ (v .holds) (omega (arith, l .4, c .loop-test .left))) lb (p .1 .0) (r .fits) (r .within .0) (r .within .1 .0)
+returns-2 c = let l = c .before .loop .inv in let p = c .before .before .before .before .before .before .pre in let r = l .5 in (λ x before lb w. let v = l .6 x before lb w in passed-done _ x before _ _ _ _ _ _ _ _ v (none-open _ _ _ _ _ _ _ _ _ (v .holds) (omega (arith, l .4, c .loop-test .left))) lb (p .1 .0) (r .fits) (r .within .0) (r .within .1 .0), omega (arith, r .fits, r .within .1 .0, r .within .1 .1 .0))
 
 pub finish-lists-spec : {M : Type 1} → statement M
 finish-lists-spec =

@@ -24,7 +24,7 @@ same-length-2 : tie.Need-same-length-2
 same-length-2 c = search needs
 
 returns : tie.Need-returns
-returns c = let x = c .before .before .before .before .before .before .before .before .before .before .before .before .args in (stray-closer (drop (x .i) (cells (x .work .now) (x .numbers .now))) _ _ _ _ _ _ _ _ _ _ _ _ _ _ (c .before .before .before .before .before .before .before .if1 .taken) (c .before .before .before .before .keep .ensures .0), c .before .before .before .before .keep .ensures .1)
+returns c = let x = c .before .before .before .before .before .before .before .before .before .before .before .before .args in (stray-closer (drop (x .i) (cells (x .work .now) (x .numbers .now))) _ _ _ _ _ _ _ _ _ _ _ _ _ _ (c .before .before .before .before .before .before .before .if1 .taken) (c .before .before .before .before .keep .ensures .0), c .before .before .before .before .keep .ensures .1, c .before .before .before .before .keep .ensures .2)
 
 close-list-requires : tie.Need-close-list-requires
 close-list-requires c κs = let p = c .before .before .before .before .before .before .before .before .before .pre in let r = p .0 .holds .reaches in (p .0, (omega (arith, r .0, c .before .before .before .before .if1 .left), p .1 .1))
@@ -42,7 +42,7 @@ same-length-6 : tie.Need-same-length-6
 same-length-6 c = search needs
 
 returns-2 : tie.Need-returns-2
-returns-2 c = let p = c .before .before .before .before .before .before .before .before .before .before .before .before .before .before .before .before .before .before .pre in let x = c .before .before .before .before .before .before .before .before .before .before .before .before .before .before .before .before .before .before .args in let r = p .0 .holds .reaches in (counting-closer (drop (x .i) (cells (x .work .now) (x .numbers .now))) _ _ _ _ _ _ _ _ _ _ _ _ _ _ (omega (arith, r .0, c .before .before .before .before .before .before .before .before .before .before .before .before .before .if1 .left)) (c .before .before .before .before .before .before .before .before .close-list .ensures .0), omega (arith, c .before .before .before .before .before .before .before .before .close-list .ensures .1))
+returns-2 c = let p = c .before .before .before .before .before .before .before .before .before .before .before .before .before .before .before .before .before .before .pre in let x = c .before .before .before .before .before .before .before .before .before .before .before .before .before .before .before .before .before .before .args in let r = p .0 .holds .reaches in (counting-closer (drop (x .i) (cells (x .work .now) (x .numbers .now))) _ _ _ _ _ _ _ _ _ _ _ _ _ _ (omega (arith, r .0, c .before .before .before .before .before .before .before .before .before .before .before .before .before .if1 .left)) (c .before .before .before .before .before .before .before .before .close-list .ensures .0), omega (arith, c .before .before .before .before .before .before .before .before .close-list .ensures .1), c .before .before .before .before .before .before .before .before .close-list .ensures .2)
 
 pub end-list-spec : {M : Type 1} → statement M
 end-list-spec =

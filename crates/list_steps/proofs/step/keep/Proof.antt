@@ -5,6 +5,7 @@ use Prim.Native.Nat.{ℕ, suc, _+_, _-_, _≤_, _<_}
 use mathlib.Core.List.{List, [], _∷_, _++_}
 use lib.ListN.{length, getD}
 use Rattle.list_steps.proofs.Steppings.{ready-base, keeps-step}
+use Rattle.list_steps.proofs.Closes.{kept-before}
 use Rattle.text.proofs.Writing.{cells-le}
 use Rattle.list_steps.proofs.step.keep.Statement.{statement}
 use Rattle.list_steps.proofs.step.keep.Tie as tie
@@ -25,7 +26,7 @@ same-length-2 : tie.Need-same-length-2
 same-length-2 c = search needs
 
 returns : tie.Need-returns
-returns c = let p = c .before .before .before .before .before .before .before .before .before .pre in let b = ready-base _ _ _ _ _ _ _ _ (p .0) in let f = p .0 .fits in (keeps-step _ _ _ _ _ _ _ _ _ _ _ _ _ (cells-le _ _ _ (omega (arith, b, p .1, f, p .0 .within .0)) (omega (arith, b, p .1, f, p .0 .within .1 .0))) (p .0 .within .1 .0) (search needs) (c .before .before .before .before .copy-within .ensures), omega arith)
+returns c = let p = c .before .before .before .before .before .before .before .before .before .pre in let b = ready-base _ _ _ _ _ _ _ _ (p .0) in let f = p .0 .fits in (keeps-step _ _ _ _ _ _ _ _ _ _ _ _ _ (cells-le _ _ _ (omega (arith, b, p .1, f, p .0 .within .0)) (omega (arith, b, p .1, f, p .0 .within .1 .0))) (p .0 .within .1 .0) (search needs) (c .before .before .before .before .copy-within .ensures), omega arith, λ far. kept-before _ (c .before .before .before .before .copy-within .ensures) b f)
 
 pub keep-spec : {M : Type 1} → statement M
 keep-spec = tie.close (tie.spec add-t19 copy-within-requires same-length same-length-2 returns)

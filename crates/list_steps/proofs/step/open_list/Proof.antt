@@ -54,7 +54,7 @@ same-length : tie.Need-same-length
 same-length c = search needs
 
 returns : tie.Need-returns
-returns c = (opens-step _ _ _ _ _ _ _ (c .before .before .pre .1 .1 .0) (c .kind-of .ensures), refl)
+returns c = (opens-step _ _ _ _ _ _ _ (c .before .before .pre .1 .1 .0) (c .kind-of .ensures), refl, refl)
 
 pub open-list-spec : {M : Type 1} → statement M
 open-list-spec =

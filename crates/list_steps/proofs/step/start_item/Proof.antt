@@ -23,7 +23,7 @@ same-length-2 : tie.Need-same-length-2
 same-length-2 c = search needs
 
 returns : tie.Need-returns
-returns c = let x = c .before .before .before .before .before .before .before .before .before .before .args in (stray-item (drop (x .i) (cells (x .work .now) (x .numbers .now))) _ _ _ _ _ _ _ _ _ _ _ _ _ _ (c .before .before .before .before .before .before .before .if1 .taken) (c .before .before .before .before .keep .ensures .0), omega (arith, c .before .before .before .before .keep .ensures .1))
+returns c = let x = c .before .before .before .before .before .before .before .before .before .before .args in (stray-item (drop (x .i) (cells (x .work .now) (x .numbers .now))) _ _ _ _ _ _ _ _ _ _ _ _ _ _ (c .before .before .before .before .before .before .before .if1 .taken) (c .before .before .before .before .keep .ensures .0), omega (arith, c .before .before .before .before .keep .ensures .1), c .before .before .before .before .keep .ensures .2)
 
 cast-numbers : tie.Need-cast-numbers
 cast-numbers c = search needs
@@ -41,7 +41,7 @@ same-length-3 : tie.Need-same-length-3
 same-length-3 c = search needs
 
 returns-2 : tie.Need-returns-2
-returns-2 c = let p = c .before .before .before .pre in let x = c .before .before .before .args in let r = p .0 .holds .reaches in (counting-item (drop (x .i) (cells (x .work .now) (x .numbers .now))) _ _ _ _ _ _ _ _ (omega (arith, r .0, c .if1 .left)) (omega (arith, p .1 .1)) (p .0 .fits) (p .0 .within .0), omega arith)
+returns-2 c = let p = c .before .before .before .pre in let x = c .before .before .before .args in let r = p .0 .holds .reaches in (counting-item (drop (x .i) (cells (x .work .now) (x .numbers .now))) _ _ _ _ _ _ _ _ (omega (arith, r .0, c .if1 .left)) (omega (arith, p .1 .1)) (p .0 .fits) (p .0 .within .0), omega arith, λ far. absurd (omega (arith, far, p .0 .fits)))
 
 pub start-item-spec : {M : Type 1} → statement M
 start-item-spec =

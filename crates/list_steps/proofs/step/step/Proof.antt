@@ -46,7 +46,7 @@ same-length : tie.Need-same-length
 same-length c = search needs
 
 returns : tie.Need-returns
-returns c = let p = c .before .before .before .before .before .before .before .before .before .before .before .pre in rw (c .before .before .before .before .before .tag .given .1) (c .before .before .open-list .ensures .0 0 _ _ _ [] (p .0 .fits) (p .0 .within .0), omega (arith, c .before .before .open-list .ensures .1))
+returns c = let p = c .before .before .before .before .before .before .before .before .before .before .before .pre in rw (c .before .before .before .before .before .tag .given .1) (c .before .before .open-list .ensures .0 0 _ _ _ [] (p .0 .fits) (p .0 .within .0), omega (arith, c .before .before .open-list .ensures .1), λ far. absurd (omega (arith, far, c .before .before .open-list .ensures .2, p .0 .fits)))
 
 same-length-2 : tie.Need-same-length-2
 same-length-2 c = search needs
@@ -70,7 +70,7 @@ same-length-7 : tie.Need-same-length-7
 same-length-7 c = search needs
 
 returns-3 : tie.Need-returns-3
-returns-3 c = rw (c .before .before .before .before .before .before .before .before .before .before .before .before .before .enum-told2 .given .1) (c .before .before .before .before .before .before .before .before .end-list .ensures .0, omega (arith, c .before .before .before .before .before .before .before .before .end-list .ensures .1))
+returns-3 c = rw (c .before .before .before .before .before .before .before .before .before .before .before .before .before .enum-told2 .given .1) (c .before .before .before .before .before .before .before .before .end-list .ensures .0, omega (arith, c .before .before .before .before .before .before .before .before .end-list .ensures .1), c .before .before .before .before .before .before .before .before .end-list .ensures .2)
 
 same-length-8 : tie.Need-same-length-8
 same-length-8 c = search needs
@@ -79,7 +79,7 @@ same-length-9 : tie.Need-same-length-9
 same-length-9 c = search needs
 
 returns-4 : tie.Need-returns-4
-returns-4 c = rw (c .before .before .before .before .before .before .before .enum-told3 .given .1) (c .before .before .before .before .keep .ensures .0, omega (arith, c .before .before .before .before .keep .ensures .1))
+returns-4 c = rw (c .before .before .before .before .before .before .before .enum-told3 .given .1) (c .before .before .before .before .keep .ensures .0, omega (arith, c .before .before .before .before .keep .ensures .1), c .before .before .before .before .keep .ensures .2)
 
 pub step-spec : {M : Type 1} → statement M
 step-spec =

@@ -5,6 +5,7 @@ use Prim.Native.Nat.{ℕ, suc, _+_, _-_, _≤_, _<_}
 use mathlib.Core.List.{List, [], _∷_, _++_}
 use lib.ListN.{length, getD}
 use Rattle.post_steps.proofs.Filling.{lists-up, lists-full, lists-done}
+use borrow.Author.Tests.{le-ltb}
 use Rattle.text.specs.Cells.{part}
 use Rattle.post_steps.proofs.list.list_text.Statement.{statement}
 use Rattle.post_steps.proofs.list.list_text.Tie as tie
@@ -40,7 +41,7 @@ same-length-4 c = search needs
 -- src/list.rt:26:9
 returns : tie.Need-returns
 unfolding part
-returns c = lists-full _ _ _ _ _ _ (c .before .before .before .before .before .before .before .before .before .list-pass .ensures) (c .if1 .taken)
+returns c = let p = c .before .before .before .before .before .before .before .before .before .list-pass in (p .ensures .0, λ h. lists-full _ _ _ _ _ _ (p .ensures .1 h) (c .if1 .taken))
 
 -- src/list.rt:28:5
 lay-part-requires : tie.Need-lay-part-requires
@@ -50,12 +51,12 @@ lay-part-requires c κs = let pre = c .before .before .before .before .before .b
     let ln = p .kept .1 .1 .1 .1 .1 .0 in
     let lo = p .kept .1 .1 .1 .1 .1 .1 .0 in
     let lg = p .kept .1 .1 .1 .1 .1 .1 .1 .0 in
-    let up = lists-up _ 0 _ _ _ _ (p .ensures) (c .before .before .before .before .if1 .left) in
+    let up = lists-up _ 0 _ _ _ _ (p .ensures .1 (omega (arith, c .before .before .before .before .if1 .left, pre .0 .1 .0))) (c .before .before .before .before .if1 .left) in
     search needs
 
 -- src/list.rt:29:5
 sub-result : tie.Need-sub-result
-sub-result c = let up = lists-up _ 0 _ _ _ _ (c .before .before .before .before .before .before .before .before .before .before .before .before .before .before .before .before .before .before .list-pass .ensures) (c .before .before .before .before .before .before .before .before .before .if1 .left) in omega arith
+sub-result c = let up = lists-up _ 0 _ _ _ _ (c .before .before .before .before .before .before .before .before .before .before .before .before .before .before .before .before .before .before .list-pass .ensures .1 (omega (arith, c .before .before .before .before .before .before .before .before .before .if1 .left, c .before .before .before .before .before .before .before .before .before .before .before .before .before .before .before .before .before .before .before .before .before .before .before .before .before .before .before .pre .0 .1 .0))) (c .before .before .before .before .before .before .before .before .before .if1 .left) in omega arith
 
 -- src/list.rt:12:1
 same-length-5 : tie.Need-same-length-5
@@ -77,7 +78,10 @@ same-length-8 c = search needs
 returns-2 : tie.Need-returns-2
 unfolding part
 returns-2 c = let p = c .before .before .before .before .before .before .before .before .before .before .before .before .before .before .before .before .before .before .list-pass in
-    lists-done _ _ _ _ _ _ (p .ensures) (c .before .before .before .before .before .before .before .before .before .if1 .left) (rw (p .kept .1 .1 .1 .1 .1 .1 .0, p .kept .1 .1 .1 .1 .1 .1 .1 .0) at (c .before .before .before .before .lay-part .ensures))
+    let fit = c .before .before .before .before .before .before .before .before .before .if1 .left in
+    let near : p .result ≤ 18446744073709551614 = omega (arith, fit, c .before .before .before .before .before .before .before .before .before .before .before .before .before .before .before .before .before .before .before .before .before .before .before .before .before .before .before .pre .0 .1 .0) in
+    let less : (k : ℕ) → p .result - k ≤ 18446744073709551614 = λ k. omega (arith, near) in
+    (p .ensures .0 ∙ le-ltb 18446744073709551614 _ near ∙ sym (le-ltb 18446744073709551614 _ (less _)), λ h. lists-done _ _ _ _ _ _ (p .ensures .1 near) fit (rw (p .kept .1 .1 .1 .1 .1 .1 .0, p .kept .1 .1 .1 .1 .1 .1 .1 .0) at (c .before .before .before .before .lay-part .ensures)))
 
 pub list-text-spec : {M : Type 1} → statement M
 list-text-spec =

@@ -7,20 +7,21 @@ use native.Mathlib.Nat.{not-suc-le-zero}
 use native.Mathlib.Numerals.{add-one}
 use native.Mathlib.Omega.{arith}
 use lib.ListN.{length, take, drop, drop-of-length-le, length-drop}
-use lib.Seq.{take-all, drop-drop, length-take-le}
+use lib.Seq.{take-all, take-take, drop-drop, length-take-le}
 use lib.Dec.{leb, ltb}
 use borrow.Author.Tests.{lt-leb, le-leb}
 use Rattle.text.specs.Ascii.{is, toFirst}
-use Rattle.text.specs.Cells.{Cell, cells, bytes}
+use Rattle.text.specs.Cells.{Cell, cells, bytes, part}
 use Rattle.list_blocks.specs.declared.tag.Tag.{Tag}
 use Rattle.list_blocks.specs.declared.tag.Tag.the-variants.{Opener, Item, Closer, Plain}
 use Rattle.list_blocks.specs.Tags.{Token, tagAt, tokenOf, restOf, tokens, depthAfter, overLimit, deeper, tooDeep}
 use Rattle.list_steps.specs.Standing.{restWith, depthBy}
 use Rattle.list_steps.proofs.Needs.{tokens-skip}
 use Rattle.list_steps.proofs.Texts.{tokens-text, tail-bytes, rest-size}
 use Rattle.list_blocks.proofs.Values.{cells-length, cells-bytes}
 use Rattle.text.proofs.Sources.{cells-sub}
+use Rattle.text.proofs.Writing.{part-end}
 use Rattle.list_steps.proofs.Runs.{tag-size}
 
 depth-after : (t : Tag) (c : Cell) (x : List Cell) (d : ℕ) → depthAfter d (tokenOf t c x) ≡ depthBy t d
 unfolding depthAfter
@@ -64,6 +65,16 @@ deeper-more Closer k y d h g = refl
 deeper-more Plain k [] d h g = absurd (not-suc-le-zero h)
 deeper-more Plain k (c ∷ x) d h g = tokens-text (deeper d) k x g (λ b y. refl)
 
+-- at a tag that takes n cells behind its first
+module _ (y : List Cell) (d : ℕ) {tag : Tag} (some : 0 < length y) (tag-is : tag ≡ tagAt y) where
+  pub deep-over : d ≤ 64 → 64 < depthBy tag d → deeper d (tokens 0 y) ≡ true
+  deep-over le far = deeper-over y d some le (rw tag-is at far)
+
+  pub deep-goes : {z : List Cell} {n : ℕ} → n ≡ restWith tag (toFirst (is "[") (bytes (drop 1 y))) → drop (suc n) y ≡ z → depthBy tag d ≤ 64 → deeper d (tokens 0 y) ≡ deeper (depthBy tag d) (tokens 0 z)
+  deep-goes size next le =
+      deeper-under y d some (rw tag-is at le) ∙ deeper-more (tagAt y) (toFirst (is "[") (bytes (drop 1 y))) y (depthBy (tagAt y) d) some (omega arith)
+      ∙ rw (← tag-is, ← size, next)
+
 module _ (bs ns : List ℕ) (h : length bs ≤ length ns) (i d : ℕ) (lt : i < length bs) (tag : Tag)
     (q : tag ≡ tagAt (cells (take (length bs - i) (drop i bs)) (take (length bs - i) (drop i ns))))
     (n : ℕ) (qn : n ≡ restWith tag (toFirst (is "[") (drop 1 (take (length bs - i) (drop i bs))))) where
@@ -98,19 +109,22 @@ module _ (bs ns : List ℕ) (h : length bs ≤ length ns) (i d : ℕ) (lt : i < 
       omega (arith, l, z, g)
 
   pub depth-over : d ≤ 64 → 64 < depthBy tag d → deeper d (tokens 0 (drop i (cells bs ns))) ≡ true
-  depth-over le far = let l = left in deeper-over (drop i (cells bs ns)) d (omega arith) le (rw tag-is at far)
+  depth-over = let l = left in deep-over (drop i (cells bs ns)) d (omega arith) tag-is
 
   pub depth-goes : depthBy tag d ≤ 64 → deeper d (tokens 0 (drop i (cells bs ns))) ≡ deeper (depthBy tag d) (tokens 0 (drop (i + n + 1) (cells bs ns)))
-  depth-goes le =
+  depth-goes =
       let l = left in
       let z : i + suc n ≡ i + n + 1 = omega arith in
-      deeper-under (drop i (cells bs ns)) d (omega arith) (rw tag-is at le)
-      ∙ deeper-more (tagAt (drop i (cells bs ns))) more (drop i (cells bs ns)) (depthBy (tagAt (drop i (cells bs ns))) d) (omega arith) (omega arith)
-      ∙ rw (← tag-is, ← size-with, drop-drop (suc n) i (cells bs ns), z)
+      deep-goes (drop i (cells bs ns)) d (omega arith) tag-is size-with (drop-drop (suc n) i (cells bs ns) ∙ ap (λ (k : ℕ). drop k (cells bs ns)) z)
 
-pub depth-start : (x : List Cell) → tooDeep x ≡ deeper 0 (tokens 0 x)
-unfolding tooDeep
-depth-start x = refl
+-- a part of the cells before a base
+pub deep-start : (a e base : ℕ) (v : List Cell) → e ≤ base → tooDeep (part a e v) ≡ deeper 0 (tokens 0 (part a e (take base v)))
+unfolding tooDeep part
+deep-start a e base v le = ap (λ (l : List Cell). deeper 0 (tokens 0 (drop a l))) (sym (take-take e base v le))
+
+pub deep-end : (i e d : ℕ) (v : List Cell) → e ≤ i → deeper d (tokens 0 (part i e v)) ≡ false
+unfolding deeper tokens
+deep-end i e d v le = rw (part-end i e v le)
 
 pub depth-end : (bs ns : List ℕ) (i d : ℕ) → length bs ≤ length ns → length bs ≤ i → deeper d (tokens 0 (drop i (cells bs ns))) ≡ false
 unfolding deeper tokens
