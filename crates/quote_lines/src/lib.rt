@@ -1,2 +1,2 @@
-// Quote tags of a text: reading them, masking what is no markup, and the line of a quote.
+// The lines of quotes: the table of the original text's quote tags, and the search for the line of a quote.
 pub mod search;
