@@ -7,10 +7,11 @@ use mathlib.Core.List.{List, [], _∷_, _++_}
 use lib.ListN.{length, take, drop, getD, set, length-take, length-drop}
 use lib.Dec.{ltb}
 use borrow.Author.Tests.{ltb-true}
-use lib.Seq.{take-set-lt, drop-set-lt, getD-take, length-take-le, take-all}
+use lib.Seq.{take-set-lt, drop-set-lt, getD-take, length-take-le, take-all, take-take, drop-drop}
 use Rattle.text.specs.Cells.{Cell, cell, cells, part}
-use Rattle.text.specs.Writes.{Appends, AppendsIn}
-use Rattle.text.proofs.Writing.{cells-set, cells-le, cells-at, part-snoc, appends-none, appends-then, appends-set, appends-over, cells-short, cells-short₂}
+use Rattle.text.specs.Writes.{Appends, AppendsIn, Pasted}
+use Rattle.text.proofs.Writing.{cells-set, cells-le, cells-at, part-snoc, appends-none, appends-then, appends-set, appends-over, appends-run, cells-short, cells-short₂}
+use Rattle.text.proofs.Sources.{cells-taken, cells-part}
 
 pub appendsIn-none : (bs ns : List ℕ) (end at : ℕ) → AppendsIn bs ns end at bs ns at []
 appendsIn-none bs ns end at = record { appends = appends-none (take end (cells bs ns)) at; bytes-behind = refl; numbers-behind = refl }
@@ -92,3 +93,49 @@ part-over {bs} {ns} {end} src from a e at b n h s f over far up =
     let l = ltb-true (end - at) (e - a) over in
     let z = part-size src from a e h s f in
     appendsIn-over bs ns end b n at 18446744073709551615 (part a e (cells src from)) (omega (arith, l, z)) far up
+
+-- ---- runs that are copied in blocks
+
+cells-append : (xs ys xs' ys' : List ℕ) → length xs ≡ length ys → cells (xs ++ xs') (ys ++ ys') ≡ cells xs ys ++ cells xs' ys'
+unfolding cells
+cells-append [] [] xs' ys' e = refl
+cells-append [] (y ∷ ys) xs' ys' e = absurd (omega (arith, e))
+cells-append (x ∷ xs) [] xs' ys' e = absurd (omega (arith, e))
+cells-append (x ∷ xs) (y ∷ ys) xs' ys' e = ap (λ (l : List Cell). cell x y ∷ l) (cells-append xs ys xs' ys' (omega (arith, e)))
+
+behind-more : (xs xs' : List ℕ) (k end : ℕ) → k ≤ end → drop k xs' ≡ drop k xs → drop end xs' ≡ drop end xs
+behind-more xs xs' k end h e =
+    let y : k + (end - k) ≡ end = omega arith in
+    ap (λ (j : ℕ). drop j xs') (sym y) ∙ sym (drop-drop (end - k) k xs') ∙ ap (drop (end - k)) e ∙ drop-drop (end - k) k xs ∙ ap (λ (j : ℕ). drop j xs) y
+
+module _ {bs ns bs' ns' : List ℕ} {end at : ℕ} (src from : List ℕ) (a e : ℕ) (h : a ≤ e) (hs : e ≤ length src) (hf : e ≤ length from) where
+  pub appendsIn-pasted : at + (e - a) + 15 ≤ end → end ≤ length bs → end ≤ length ns → length bs' ≡ length bs → length ns' ≡ length ns
+      → Pasted bs at bs' (take (e - a) (drop a src)) → Pasted ns at ns' (take (e - a) (drop a from)) → AppendsIn bs ns end at bs' ns' (at + (e - a)) (part a e (cells src from))
+  appendsIn-pasted room hb hn sb sn pb pn =
+      let n : ℕ = e - a in
+      let tb : List ℕ = take n (drop a src) in
+      let tn : List ℕ = take n (drop a from) in
+      let t : List Cell = part a e (cells src from) in
+      let ds = length-drop a src in
+      let df = length-drop a from in
+      let lb : length tb ≡ n = length-take-le n (drop a src) (omega (arith, ds)) in
+      let ln : length tn ≡ n = length-take-le n (drop a from) (omega (arith, df)) in
+      let z : length t ≡ n = part-size src from a e h hs hf in
+      let ab : length (take at bs) ≡ at = length-take-le at bs (omega arith) in
+      let an : length (take at ns) ≡ at = length-take-le at ns (omega arith) in
+      let xb : take (at + n) bs' ≡ take at bs ++ tb = ap (λ (j : ℕ). take (at + j) bs') (sym lb) ∙ pb .text in
+      let xn : take (at + n) ns' ≡ take at ns ++ tn = ap (λ (j : ℕ). take (at + j) ns') (sym ln) ∙ pn .text in
+      let l = area-length bs ns end hb hn in
+      let l' = area-length bs' ns' end (omega (arith, sb)) (omega (arith, sn)) in
+      let x : take (at + n) (take end (cells bs' ns')) ≡ take at (take end (cells bs ns)) ++ t =
+      take-take (at + n) end (cells bs' ns') (omega arith) ∙ sym (cells-taken (at + n) bs' ns') ∙ ap (λ (y : List ℕ). cells y (take (at + n) ns')) xb
+      ∙ ap (λ (y : List ℕ). cells (take at bs ++ tb) y) xn ∙ cells-append (take at bs) (take at ns) tb tn (ab ∙ sym an)
+      ∙ ap (λ (y : List Cell). y ++ cells tb tn) (cells-taken at bs ns ∙ sym (take-take at end (cells bs ns) (omega arith)))
+      ∙ ap (λ (y : List Cell). take at (take end (cells bs ns)) ++ y) (cells-part src from a e h hs hf) in
+      let r : Appends (take end (cells bs ns)) at (take end (cells bs' ns')) (at + length t) t =
+      appends-run t (l' ∙ sym l) (omega (arith, z, l)) (ap (λ (j : ℕ). take (at + j) (take end (cells bs' ns'))) z ∙ x) in
+      record {
+        appends = rw z at r;
+        bytes-behind = behind-more bs bs' (at + length tb + 15) end (omega (arith, lb)) (pb .behind);
+        numbers-behind = behind-more ns ns' (at + length tn + 15) end (omega (arith, ln)) (pn .behind);
+      }

@@ -10,4 +10,5 @@ pub mod Decimals
 pub mod SplitLaws
 pub mod Copying
 pub mod Areas
+pub mod Blocks
 pub mod Sources

@@ -7,7 +7,7 @@ use native.Mathlib.Omega.{arith}
 use native.Mathlib.Decide.{decLe}
 use mathlib.Core.List.{List, [], _∷_, _++_, append-nil, append-assoc}
 use lib.ListN.{length, take, drop, getD, set, length-set, length-append, length-take, drop-of-length-le}
-use lib.Seq.{take-suc-set, take-take, take-set-le, take-suc, drop-append-le, length-take-le, slice, slice-cons, slice-empty, drop-nil}
+use lib.Seq.{take-append-le, take-suc-set, take-take, take-set-le, take-suc, drop-append-le, length-take-le, slice, slice-cons, slice-empty, drop-nil}
 use Rattle.text.specs.Cells.{Cell, cell, cells, part}
 use Rattle.text.specs.Writes.{Holds, Appends}
 
@@ -113,6 +113,24 @@ appends-set v at c lt = record {
   keeps = take-set-le at v at c (le-refl at);
   grows = omega arith;
 }
+
+-- a run that stands behind what stood before the place
+pub appends-run : {v v' : List Cell} {at : ℕ} (t : List Cell) → length v' ≡ length v → at + length t ≤ length v → take (at + length t) v' ≡ take at v ++ t → Appends v at v' (at + length t) t
+appends-run {v} {v'} {at} t same room text =
+    let k : length (take at v) ≡ at = length-take-le at v (omega arith) in
+    record {
+      step = λ s h.
+          let e : length (s ++ t) ≡ length s + length t = length-append s t in
+          let g : length s ≤ length v = holds-fits v at s h (omega arith) in
+          let n : at ≡ length s = h .end g in
+          record {
+            end = λ le. omega arith;
+            text = λ le. text ∙ ap (λ (x : List Cell). x ++ t) (h .text g);
+            full = λ lt. omega arith;
+          };
+      keeps = sym (take-take at (at + length t) v' (omega arith)) ∙ ap (take at) text ∙ take-append-le at (take at v) t (omega arith) ∙ take-take at at v (omega arith);
+      grows = omega arith;
+    }
 
 -- more cells than fit
 pub appends-over : (v : List Cell) (at : ℕ) (t : List Cell) (r : ℕ) → length v < at + length t → length v < r → at ≤ r → Appends v at v r t

@@ -2,12 +2,13 @@
 --   Holds v at s              the first `at` cells of v are s, where s fits; where it does not, `at` is past v's end
 --   Appends v at v' at' t     from v at `at` to v' at `at'`, t has been appended
 --   AppendsIn .. end ..       the same in the area before `end` of a longer pair of slices; nothing behind it changes
+--   Pasted xs at xs' t        t stands in xs' from `at` on, behind what xs has there; up to 15 elements behind t may be others than in xs
 --   cleared from xs           xs with a 0 for each element from place `from` on
 --   padded m xs               a slice of m elements that holds xs and then zeros
 --   LaidOut x m k out plain   the text x stands in out and its origins in plain, slices of m and k elements, with zeros behind
 -- Assumes nothing.
 use mathlib.Core.Path.{_≡_}
-use Prim.Native.Nat.{ℕ, _-_, _≤_, _<_}
+use Prim.Native.Nat.{ℕ, _+_, _-_, _≤_, _<_}
 use mathlib.Core.List.{List, _++_}
 use lib.ListN.{length, take, drop, replicate}
 use Rattle.text.specs.Cells.{Cell, cells, bytes, origins}
@@ -26,6 +27,10 @@ pub record AppendsIn (bs ns : List ℕ) (end at : ℕ) (bs' ns' : List ℕ) (at'
   pub appends : Appends (take end (cells bs ns)) at (take end (cells bs' ns')) at' t
   pub bytes-behind : drop end bs' ≡ drop end bs
   pub numbers-behind : drop end ns' ≡ drop end ns
+
+pub record Pasted (xs : List ℕ) (at : ℕ) (xs' t : List ℕ) : Type 0 where
+  pub text : take (at + length t) xs' ≡ take at xs ++ t
+  pub behind : drop (at + length t + 15) xs' ≡ drop (at + length t + 15) xs
 
 unfoldable pub cleared : (from : ℕ) → List ℕ → List ℕ
 cleared from xs = take from xs ++ replicate (length xs - from) 0

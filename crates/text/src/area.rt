@@ -2,8 +2,13 @@
 // source: its cells can be appended too.
 use crate::PostAt;
 use crate::TextAt;
+use crate::block::blocks8;
+use crate::block::blocks32;
+use crate::block::within8;
+use crate::block::within32;
 ghost use mathlib.Core.Path.{_≡_};
-ghost use Prim.Native.Nat.{_-_, _≤_};
+ghost use mathlib.Core.Bool.{true};
+ghost use Prim.Native.Nat.{_+_, _-_, _≤_};
 ghost use lib.ListN.{length};
 ghost use lib.Dec.{ltb};
 ghost use Rattle.text.specs.Cells.{cells, part};
@@ -21,6 +26,27 @@ fn overflows(n: usize, at: TextAt, end: usize) -> bool
         return end - i < n;
     }
     0 < n
+}
+
+// Whether n cells can be copied in blocks, where a and b are left to read behind them: 15 more can be read and written.
+fn fits_blocks(a: usize, b: usize, n: usize, at: TextAt, end: usize) -> bool
+    ensures { λ r. ⌜ (r ≡ true → (15 ≤ a) × ((15 ≤ b) × (at .0 + n + 15 ≤ end))) ⌝ }
+{
+    let i = at.0;
+    if a < 15 {
+        return false;
+    }
+    if b < 15 {
+        return false;
+    }
+    if end < i {
+        return false;
+    }
+    let room = end - i;
+    if room < n {
+        return false;
+    }
+    15 <= room - n
 }
 
 // Appends the cells of another pair of slices from a up to e.
@@ -41,6 +67,12 @@ pub fn copy_in(
     let last = e.0;
     if overflows(last - first, at, end) {
         return TextAt(FULL);
+    }
+    let n = last - first;
+    if fits_blocks(src.len() - last, from.len() - last, n, at, end) {
+        blocks8(src, first, last, buf, at.0);
+        blocks32(from, first, last, nums, at.0);
+        return TextAt(at.0 + n);
     }
     let mut i = first;
     let mut to = at.0;
@@ -69,6 +101,13 @@ pub fn copy_within(
     let last = e.0;
     if overflows(last - first, at, end) {
         return TextAt(FULL);
+    }
+    let n = last - first;
+    let behind = at.0 - last;
+    if fits_blocks(behind, behind, n, at, end) {
+        within8(buf, first, last, at.0);
+        within32(nums, first, last, at.0);
+        return TextAt(at.0 + n);
     }
     let mut i = first;
     let mut to = at.0;

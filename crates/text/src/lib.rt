@@ -1,6 +1,7 @@
 // Text with origins: what every pass reads and writes.
 pub mod area;
 pub mod blank;
+pub mod block;
 pub mod scan;
 pub mod source;
 pub mod trim;
