@@ -154,9 +154,14 @@ first-plain p s i lt h = by (p (getD s i 0)) refl
         absurd (not-suc-le-zero (subst (λ (n : ℕ). 1 ≤ n) z h))
 
 -- the same from a place on
-pub first-plain-at : (p : ℕ → Bool) (s : List ℕ) (i j : ℕ) → i ≤ j → j < length s → j < i + toFirst p (drop i s) → p (getD s j 0) ≡ false
-first-plain-at p s i j le lt h =
+pub first-later : (p : ℕ → Bool) (s : List ℕ) (i j : ℕ) → i ≤ j → j ≤ i + toFirst p (drop i s) → j + toFirst p (drop j s) ≡ i + toFirst p (drop i s)
+first-later p s i j le h =
     let e : i + (j - i) ≡ j = omega arith in
     let d : drop (j - i) (drop i s) ≡ drop j s = drop-drop (j - i) i s ∙ ap (λ (n : ℕ). drop n s) e in
     let f = first-past p (drop i s) (j - i) (omega arith) in
-    first-plain p s j lt (rw (← d) (omega (arith, f)))
+    rw (← d) (omega (arith, f))
+
+pub first-plain-at : (p : ℕ → Bool) (s : List ℕ) (i j : ℕ) → i ≤ j → j < length s → j < i + toFirst p (drop i s) → p (getD s j 0) ≡ false
+first-plain-at p s i j le lt h =
+    let f = first-later p s i j le (omega arith) in
+    first-plain p s j lt (omega (arith, f))

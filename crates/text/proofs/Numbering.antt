@@ -6,9 +6,10 @@ use lib.Dec.{eqb, leb, ltb}
 use native.Mathlib.Nat.{add-zero, zero-add, mul-zero, le-of-suc-le-suc, not-suc-le-zero, le-antisymm}
 use native.Mathlib.Numerals.{add-one}
 use native.Mathlib.Omega.{arith}
+use native.Mathlib.Decide.{decLe}
 use mathlib.Core.List.{List, [], _∷_, _++_, map, append-nil, append-assoc}
 use lib.ListN.{length, take, drop, getD, set, drop-of-length-le}
-use lib.Seq.{drop-cons, take-suc-set, take-all, append-snoc}
+use lib.Seq.{drop-cons, take-suc-set, take-all, append-snoc, getD-set-same, getD-set-other}
 use Rattle.text.specs.Blanks.{blank1, blankSize}
 use Rattle.text.specs.Cells.{Cell, cell, cells, blankAt, moreAfter, cellsFrom, cellsOf, written, sign}
 use Rattle.text.proofs.Writing.{cells-in, cells-short}
@@ -88,6 +89,15 @@ plain-turn s ns i x f h k a q e =
     by : (t : Bool) → f ≡ cond t 1 0 → (f ≡ cond (ltb 0 0 || ltb 0 (cond t 1 0)) 1 0) × (0 ≡ cond (ltb 0 0) (0 - 1) (cond t 1 0 - 1))
     by true e = (e, refl)
     by false e = (e, refl)
+
+-- a flag more
+pub flags-turn : (p : ℕ → ℕ) (flags : List ℕ) (k : ℕ) {f : ℕ} → k < length flags → f ≡ p k → ((j : ℕ) → j < k → getD flags j 0 ≡ p j)
+    → (j : ℕ) → j < k + 1 → getD (set flags k f) j 0 ≡ p j
+flags-turn p flags k {f} h e g j l =
+    elim (decLe k j) [
+      | yes le ↦ let q : j ≡ k = omega arith in rw q (getD-set-same flags k f 0 h ∙ e)
+      | no n ↦ getD-set-other flags k j f 0 (λ q. n (omega (arith, q))) ∙ g j (omega arith)
+    ]
 
 pub plain-small : (b f : ℕ) → f ≡ cond (blank1 b) 1 0 → f ≤ 1
 plain-small b f e = at-most-one f (blank1 b) e

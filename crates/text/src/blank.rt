@@ -2,11 +2,12 @@
 use crate::PostAt;
 use crate::scan::byte_at;
 use crate::scan::is_inside;
+use crate::shorter;
 ghost use mathlib.Core.Path.{_≡_};
 ghost use mathlib.Core.Bool.{cond, _&&_, _||_};
 ghost use mathlib.Core.List.{_++_};
-ghost use Prim.Native.Nat.{suc, _+_, _≤_, _<_, min};
-ghost use lib.ListN.{length, take, drop};
+ghost use Prim.Native.Nat.{ℕ, suc, _+_, _≤_, _<_, min};
+ghost use lib.ListN.{length, take, drop, getD};
 ghost use lib.Dec.{eqb, leb, ltb};
 ghost use Rattle.text.specs.Ascii.{toFirst};
 ghost use Rattle.text.specs.Blanks.{blank1, blank2, blankE280, blank3, blankWidth, blankSize};
@@ -127,7 +128,7 @@ pub fn place_at(s: &[u8], at: PostAt, more: usize) -> Place
 }
 
 // 1 for an ASCII byte that is blank, else 0.
-fn ascii_blank(b: u8) -> u32
+fn ascii_blank(b: u8) -> u8
     ensures { λ r. ⌜ r ≡ cond (blank1 b) 1 0 ⌝ }
 {
     if is_blank1(b) {
@@ -166,18 +167,51 @@ fn past_plain(s: &[u8], at: usize) -> usize
     i
 }
 
-// Numbers the bytes from i up to e, none of which can begin a blank character of more than one byte. The loop is plain, so that several
-// bytes are numbered at once where the machine can.
+// Sets the first n flags: 1 for a blank ASCII byte from i on, else 0.
+fn set_flags(s: &[u8], i: usize, n: usize, flags: &mut [u8])
+    requires { ⌜ (i + n ≤ length (now s)) × (n ≤ length (now flags)) ⌝ }
+    ensures { λ _. ⌜ ((k : ℕ) → k < n → getD (now (flags .exit)) k 0 ≡ cond (blank1 (getD (now (s .entry)) (i + k) 0)) 1 0) ⌝ }
+{
+    let mut k: usize = 0;
+    while k < n {
+        flags[k] = ascii_blank(s[i + k]);
+        k += 1;
+    }
+}
+
+fn wide(b: u8) -> u32
+    ensures { λ r. ⌜ r ≡ b ⌝ }
+{
+    b as u32
+}
+
+// Numbers n bytes from i on, none of which can begin a blank character of more than one byte. The flags stand in an array of bytes first, so that
+// 16 of them are found at once where the machine can.
+fn number_run(s: &[u8], i: usize, n: usize, nums: &mut [u32])
+    requires { ⌜ ((length (now s) ≤ 262144) × (length (now s) ≤ length (now nums))) × ((n ≤ 128) × (i + n ≤ length (now s)) × (n ≤ toFirst (λ x. eqb x 0xC2 || (leb 0xE1 x && leb x 0xE3)) (drop i (now s)))) ⌝ }
+    ensures { λ _. ⌜ take i (cells (now (s .entry)) (now (nums .entry))) ++ cellsFrom suc (i + 1) 0 (drop i (now (s .entry))) ≡ take (i + n) (cells (now (s .entry)) (now (nums .exit))) ++ cellsFrom suc (i + n + 1) 0 (drop (i + n) (now (s .entry))) ⌝ }
+{
+    let mut flags: [u8; 128] = [0; 128];
+    set_flags(s, i, n, &mut flags);
+    let mut x = 2 * ((i + 1) as u32);
+    let mut k: usize = 0;
+    while k < n {
+        nums[i + k] = x + wide(flags[k]);
+        x += 2;
+        k += 1;
+    }
+}
+
+// Numbers the bytes from i up to e, none of which can begin a blank character of more than one byte.
 fn number_plain(s: &[u8], i: usize, e: usize, nums: &mut [u32])
     requires { ⌜ ((length (now s) ≤ 262144) × (length (now s) ≤ length (now nums))) × ((i ≤ e) × (e ≤ length (now s)) × (e ≤ i + toFirst (λ x. eqb x 0xC2 || (leb 0xE1 x && leb x 0xE3)) (drop i (now s)))) ⌝ }
     ensures { λ _. ⌜ take i (cells (now (s .entry)) (now (nums .entry))) ++ cellsFrom suc (i + 1) 0 (drop i (now (s .entry))) ≡ take e (cells (now (s .entry)) (now (nums .exit))) ++ cellsFrom suc (e + 1) 0 (drop e (now (s .entry))) ⌝ }
 {
-    let mut x = 2 * ((i + 1) as u32);
     let mut j = i;
     while j < e {
-        nums[j] = x + ascii_blank(s[j]);
-        x += 2;
-        j += 1;
+        let n = shorter(128, e - j);
+        number_run(s, j, n, nums);
+        j += n;
     }
 }
 

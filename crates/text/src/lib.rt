@@ -1,4 +1,7 @@
 // Text with origins: what every pass reads and writes.
+ghost use mathlib.Core.Path.{_≡_};
+ghost use Prim.Native.Nat.{min};
+
 pub mod area;
 pub mod blank;
 pub mod block;
@@ -13,3 +16,13 @@ pub struct PostAt(pub usize);
 
 // A place in the text that is written.
 pub struct TextAt(pub usize);
+
+// The smaller of two lengths.
+pub fn shorter(a: usize, b: usize) -> usize
+    ensures { λ r. ⌜ r ≡ min a b ⌝ }
+{
+    if a < b {
+        return a;
+    }
+    b
+}

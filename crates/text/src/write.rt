@@ -3,11 +3,12 @@ use crate::PostAt;
 use crate::TextAt;
 use crate::area::copy_in;
 use crate::blank::place_at;
+use crate::shorter;
 use crate::zero::zero8;
 use crate::zero::zero32;
 ghost use mathlib.Core.Path.{_≡_};
 ghost use mathlib.Core.List.{[], _∷_, map};
-ghost use Prim.Native.Nat.{_+_, _/_, _≤_, min};
+ghost use Prim.Native.Nat.{_+_, _/_, _≤_};
 ghost use lib.ListN.{length, take};
 ghost use Rattle.text.specs.Cells.{cell, cells, part, written, feed, sign};
 ghost use Rattle.text.specs.Decimal.{decimal};
@@ -43,15 +44,6 @@ pub fn put_sign(buf: &mut [u8], nums: &mut [u32], at: TextAt, b: u8) -> TextAt
     ensures { λ r. ⌜ Appends (cells (now (buf .entry)) (now (nums .entry))) (at .0) (cells (now (buf .exit)) (now (nums .exit))) (r .0) (sign b ∷ []) ⌝ }
 {
     put(buf, nums, at, b, 0)
-}
-
-fn shorter(a: usize, b: usize) -> usize
-    ensures { λ r. ⌜ r ≡ min a b ⌝ }
-{
-    if a < b {
-        return a;
-    }
-    b
 }
 
 // Appends the cells of a source from a up to e.

@@ -9,7 +9,7 @@ use Rattle.text.proofs.write.copy.Tie as tie
 use Rattle.text.proofs.write.copy.Reads as reads
 use Rattle.text.proofs.write.copy.Lts as lts
 use Rattle.text.proofs.area.copy_in.Reads as copy-in-reads
-use Rattle.text.proofs.write.shorter.Reads as shorter-reads
+use Rattle.text.proofs.shorter.Reads as shorter-reads
 
 shorter-requires : tie.Need-shorter-requires
 shorter-requires c κs = search needs

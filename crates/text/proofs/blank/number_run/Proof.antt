@@ -1,0 +1,135 @@
+use borrow.Author.Needs.{needs}
+use native.Mathlib.Omega.{arith}
+use mathlib.Core.Path.{_≡_, refl, sym, ap, _∙_}
+use Prim.Native.Nat.{ℕ, suc, _+_, _-_, _≤_, _<_}
+use mathlib.Core.List.{List, [], _∷_, _++_}
+use lib.ListN.{length, getD}
+use lib.ListN.{set, length-set}
+use Prim.Native.Nat.{_*_}
+use native.Mathlib.Nat.{le-antisymm, add-zero}
+use Rattle.text.proofs.Bytes.{first-plain-at}
+use Rattle.text.proofs.Characters.{lead}
+use Rattle.text.proofs.Numbering.{numbered, plain-small, plain-turn}
+use Rattle.text.proofs.blank.number_run.Statement.{statement}
+use Rattle.text.proofs.blank.number_run.Tie as tie
+use Rattle.text.proofs.blank.number_run.Reads as reads
+use Rattle.text.proofs.blank.number_run.Lts as lts
+use Rattle.text.proofs.blank.set_flags.Reads as set-flags-reads
+use Rattle.text.proofs.blank.wide.Reads as wide-reads
+
+abbrev Inv-loop : tie.InvT-loop
+Inv-loop s i n nums₀ flags x₀ k₀ nums x k = (k ≤ n) × (x ≡ 2 * (i + k + 1)) × (length nums ≡ length nums₀) × (numbered s i 0 nums₀ ≡ numbered s (i + k) 0 nums)
+
+abbrev μ-loop : tie.MeasureT-loop
+μ-loop s i n nums₀ flags x₀ k₀ nums x k = n - k
+
+-- src/blank.rt:195:24
+slice-aggregate-set-flags : tie.Need-slice-aggregate-set-flags Inv-loop μ-loop
+slice-aggregate-set-flags c = search needs
+
+-- src/blank.rt:195:5
+set-flags-requires : tie.Need-set-flags-requires Inv-loop μ-loop
+set-flags-requires c κs = search needs
+
+-- src/blank.rt:196:23
+add-x : tie.Need-add-x Inv-loop μ-loop
+add-x c = search needs
+
+-- src/blank.rt:196:22
+cast-x : tie.Need-cast-x Inv-loop μ-loop
+cast-x c = search needs
+
+-- src/blank.rt:196:17
+mul-x : tie.Need-mul-x Inv-loop μ-loop
+mul-x c = search needs
+
+-- src/blank.rt:198:5
+loop-holds : tie.Need-loop-holds Inv-loop μ-loop
+loop-holds c =
+    let a = c .before .before .before .before .before .args in
+    (omega arith, omega arith, refl, ap (λ (j : ℕ). numbered (a .s .now) j 0 (a .nums .now)) (sym (add-zero (a .i))))
+
+-- src/blank.rt:199:32
+array-read-wide : tie.Need-array-read-wide Inv-loop μ-loop
+array-read-wide c = search needs
+
+-- src/blank.rt:199:27
+wide-requires : tie.Need-wide-requires Inv-loop μ-loop
+wide-requires c κs = search needs
+
+-- src/blank.rt:199:23
+add-nums : tie.Need-add-nums Inv-loop μ-loop
+add-nums c =
+    let l = c .before .before .loop in
+    let e = c .wide .ensures ∙ c .before .before .before .before .set-flags .ensures (l .k) (c .before .loop-test .taken) in
+    let z = plain-small _ _ e in
+    omega (arith, z, l .inv .1)
+
+-- src/blank.rt:199:14
+add-nums-2 : tie.Need-add-nums-2 Inv-loop μ-loop
+add-nums-2 c = search needs
+
+-- src/blank.rt:199:9
+mul-nums : tie.Need-mul-nums Inv-loop μ-loop
+mul-nums c = search needs
+
+-- src/blank.rt:199:9
+slice-write-nums : tie.Need-slice-write-nums Inv-loop μ-loop
+slice-write-nums c = search needs
+
+-- src/blank.rt:200:9
+add-x-2 : tie.Need-add-x-2 Inv-loop μ-loop
+add-x-2 c = search needs
+
+-- src/blank.rt:201:9
+add-k : tie.Need-add-k Inv-loop μ-loop
+add-k c = search needs
+
+-- src/blank.rt:198:5
+loop-less : tie.Need-loop-less Inv-loop μ-loop
+loop-less c = search needs
+
+-- src/blank.rt:198:5
+loop-again : tie.Need-loop-again Inv-loop μ-loop
+loop-again c =
+    let l = c .before .before .loop in
+    let e = c .wide .ensures ∙ c .before .before .before .before .set-flags .ensures (l .k) (c .before .loop-test .taken) in
+    let a = c .before .before .before .before .before .before .before .before .args in
+    let next : List ℕ = set (l .nums) (a .i + l .k) (l .x + c .wide .result) in
+    let q : a .i + l .k + 1 ≡ a .i + (l .k + 1) = omega arith in
+    (omega arith, omega (arith, l .inv .1), simp length-set (omega arith), l .inv .3 ∙ plain-turn _ _ (a .i + l .k) (l .x) _ (omega arith) (omega arith) (first-plain-at lead (a .s .now) (a .i) (a .i + l .k) (omega arith) (omega arith) (omega arith)) (l .inv .1) e ∙ ap (λ (j : ℕ). numbered (a .s .now) j 0 next) q)
+
+-- src/blank.rt:190:1
+same-length : tie.Need-same-length Inv-loop μ-loop
+same-length c = search needs
+
+-- src/blank.rt:190:1
+returns : tie.Need-returns Inv-loop μ-loop
+returns c =
+    let l = c .before .loop in
+    rw (le-antisymm (c .loop-test .left) (l .inv .0)) (l .inv .3)
+
+pub number-run-spec : {M : Type 1} → statement M
+number-run-spec =
+    tie.close
+    (tie.spec
+    Inv-loop
+    μ-loop
+    slice-aggregate-set-flags
+    set-flags-requires
+    add-x
+    cast-x
+    mul-x
+    loop-holds
+    array-read-wide
+    wide-requires
+    add-nums
+    add-nums-2
+    mul-nums
+    slice-write-nums
+    add-x-2
+    add-k
+    loop-less
+    loop-again
+    same-length
+    returns)
