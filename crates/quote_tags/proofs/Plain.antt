@@ -11,16 +11,17 @@ use lib.Dec.{eqb}
 use borrow.Author.Tests.{ne-eqb, eqb-false}
 use Rattle.text.specs.Ascii.{ascii, is, inside, small, begins, toFirst, toBracket}
 use Rattle.text.proofs.Bytes.{inside-true, look, look-past}
-use Rattle.quote_tags.specs.Tags.{NextBracket, beginsAny, tagSize, openers, closers, openerSize, closerSize}
+use Rattle.quote_tags.specs.Tags.{NextBracket, beginsAny, tagSize, openers, closers, openerSize, closerSize, NoTag}
 use Rattle.quote_tags.proofs.Tagging.{tag-not}
 
 -- ---- another first byte
 
-pub small-open : (b : ℕ) → (b ≡ 91 → ⊥) → small b ≡ 91 → ⊥
+-- a byte below the small letters is read off no other byte
+pub small-other : (b c : ℕ) → c < 97 → (b ≡ c → ⊥) → small b ≡ c → ⊥
 unfolding small
-small-open b n e = by (inside 65 90 b) refl e
+small-other b c lt n e = by (inside 65 90 b) refl e
   where
-    by : (t : Bool) → inside 65 90 b ≡ t → cond t (b + 32) b ≡ 91 → ⊥
+    by : (t : Bool) → inside 65 90 b ≡ t → cond t (b + 32) b ≡ c → ⊥
     by true p q = let z = inside-true 65 90 b p in omega (arith, z .0, q)
     by false p q = n q
 
@@ -32,7 +33,7 @@ Bracketed (w ∷ ws) = (getD w 0 0 ≡ 91) × Bracketed ws
 first-other : (w : List ℕ) (b : ℕ) (x : List ℕ) → getD w 0 0 ≡ 91 → (b ≡ 91 → ⊥) → begins w (b ∷ x) ≡ false
 unfolding begins
 first-other [] b x e n = absurd (omega (arith, e))
-first-other (a ∷ w) b x e n = rw (ne-eqb (small b) a (λ q. small-open b n (q ∙ e)))
+first-other (a ∷ w) b x e n = rw (ne-eqb (small b) a (λ q. small-other b 91 (omega arith) n (q ∙ e)))
 
 any-other : (ws : List (List ℕ)) (b : ℕ) (x : List ℕ) → Bracketed ws → (b ≡ 91 → ⊥) → beginsAny ws (b ∷ x) ≡ false
 unfolding beginsAny
@@ -102,14 +103,28 @@ openers-other x p q r = none _ _ _ p q r
     none : (a b c : Bool) → a ≡ false → b ≡ false → c ≡ false → (a || (b || (c || false))) ≡ false
     none a b c p q r = rw (p, q, r)
 
+closers-other : (x : List ℕ) → begins (ascii "[/quote]") x ≡ false → beginsAny closers x ≡ false
+unfolding beginsAny
+closers-other x p = rw p
+
 -- the bytes that a function compared
-pub not-quote : (x : List ℕ) {a b : ℕ} → (eqb a 91 && (eqb b 113 || eqb b 81)) ≡ false → getD x 0 0 ≡ a → getD x 1 0 ≡ b → openerSize x ≡ 0
-unfolding openerSize
-not-quote x {a} {b} h ea eb = sym (tag-not openers x (by (eqb a 91) refl h))
+pub not-tag : (x : List ℕ) {a b c : ℕ} → (eqb a 91 && ((eqb b 113 || eqb b 81) || (eqb b 47 && (eqb c 113 || eqb c 81)))) ≡ false
+    → getD x 0 0 ≡ a → getD x 1 0 ≡ b → getD x 2 0 ≡ c → NoTag x
+unfolding openerSize closerSize
+not-tag x {a} {b} {c} h ea eb ec = let n = by (eqb a 91) refl h in (sym (tag-not openers x (n .0)), sym (tag-not closers x (n .1)))
   where
-    by : (t : Bool) → eqb a 91 ≡ t → (t && (eqb b 113 || eqb b 81)) ≡ false → beginsAny openers x ≡ false
-    by false p q = let f = small-open a (eqb-false a 91 p) in let g : small (getD x 0 0) ≡ 91 → ⊥ = λ z. f (ap small (sym ea) ∙ z) in openers-other x (byte-other 0 _ x (omega arith) g) (byte-other 0 _ x (omega arith) g) (byte-other 0 _ x (omega arith) g)
-    by true p q = let g : small (getD x 1 0) ≡ 113 → ⊥ = λ z. letter-other b 81 q (ap small (sym eb) ∙ z) in openers-other x (byte-other 1 _ x (omega arith) g) (byte-other 1 _ x (omega arith) g) (byte-other 1 _ x (omega arith) g)
+    by-slash : (t : Bool) → eqb b 47 ≡ t → (t && (eqb c 113 || eqb c 81)) ≡ false → begins (ascii "[/quote]") x ≡ false
+    by-slash false p q = byte-other 1 _ x (omega arith) (λ z. small-other b 47 (omega arith) (eqb-false b 47 p) (ap small (sym eb) ∙ z))
+    by-slash true p q = byte-other 2 _ x (omega arith) (λ z. letter-other c 81 q (ap small (sym ec) ∙ z))
+
+    by : (t : Bool) → eqb a 91 ≡ t → (t && ((eqb b 113 || eqb b 81) || (eqb b 47 && (eqb c 113 || eqb c 81)))) ≡ false → (beginsAny openers x ≡ false) × (beginsAny closers x ≡ false)
+    by false p q =
+        let g : small (getD x 0 0) ≡ 91 → ⊥ = λ z. small-other a 91 (omega arith) (eqb-false a 91 p) (ap small (sym ea) ∙ z) in
+        (openers-other x (byte-other 0 _ x (omega arith) g) (byte-other 0 _ x (omega arith) g) (byte-other 0 _ x (omega arith) g), closers-other x (byte-other 0 _ x (omega arith) g))
+    by true p q =
+        let r = neither (eqb b 113 || eqb b 81) (eqb b 47 && (eqb c 113 || eqb c 81)) q in
+        let g : small (getD x 1 0) ≡ 113 → ⊥ = λ z. letter-other b 81 (r .0) (ap small (sym eb) ∙ z) in
+        (openers-other x (byte-other 1 _ x (omega arith) g) (byte-other 1 _ x (omega arith) g) (byte-other 1 _ x (omega arith) g), closers-other x (by-slash (eqb b 47) refl (r .1)))
 
 module _ (s : List ℕ) (i : ℕ) {y t : ℕ} (ey : y ≡ getD s (i + 1) 0) (et : t ≡ small y) where
   pub second-not : (a c : ℕ) (w : List ℕ) → (t ≡ c → ⊥) → begins (a ∷ c ∷ w) (drop i s) ≡ false
@@ -121,6 +136,6 @@ module _ (s : List ℕ) (i : ℕ) {y t : ℕ} (ey : y ≡ getD s (i + 1) 0) (et 
 pub first-here : (s : List ℕ) (i : ℕ) → getD (drop i s) 0 0 ≡ getD s i 0
 first-here s i = rw (getD-drop i s 0 0, add-zero)
 
-pub not-quote-at : (s : List ℕ) (i : ℕ) {r : Bool} {a b : ℕ} → (r ≡ false → (x : List ℕ) → getD x 0 0 ≡ a → getD x 1 0 ≡ b → openerSize x ≡ 0)
-    → a ≡ getD s i 0 → b ≡ getD s (i + 1) 0 → r ≡ false → openerSize (drop i s) ≡ 0
-not-quote-at s i f ea eb q = f q (drop i s) (first-here s i ∙ sym ea) (getD-drop i s 1 0 ∙ sym eb)
+pub not-tag-at : (s : List ℕ) (i : ℕ) {r : Bool} {a b c : ℕ} → (r ≡ false → (x : List ℕ) → getD x 0 0 ≡ a → getD x 1 0 ≡ b → getD x 2 0 ≡ c → NoTag x)
+    → a ≡ getD s i 0 → b ≡ getD s (i + 1) 0 → c ≡ getD s (i + 2) 0 → r ≡ false → NoTag (drop i s)
+not-tag-at s i f ea eb ec q = f q (drop i s) (first-here s i ∙ sym ea) (getD-drop i s 1 0 ∙ sym eb) (getD-drop i s 2 0 ∙ sym ec)
