@@ -14,8 +14,9 @@ use borrow.Author.Tests.{eqb-true, eq-eqb}
 use Rattle.text.specs.Ascii.{is, begins, small, inside, toFirst, toBracket}
 use Rattle.text.proofs.Bytes.{first-within, first-stops}
 use Rattle.quote_tags.proofs.Masking.{drop-take-take}
-use Rattle.quote_tags.proofs.Places.{Between, between-none, between-one}
-use Rattle.quote_tags.specs.Tags.{NextBracket, beginsAny, tagSize, upToBracket, openers, openerSize, NoTag, attributionOf}
+use Rattle.quote_tags.proofs.Plain.{PlainRun}
+use Rattle.quote_tags.proofs.Places.{between-none, between-one}
+use Rattle.quote_tags.specs.Tags.{NextBracket, beginsAny, tagSize, upToBracket, openers, openerSize, attributionOf}
 use Rattle.quote_lines.specs.Lines.{Tag, bare, lineAfter, tags}
 use Rattle.quote_lines.specs.Tables.{wordsAt, TagAt, noTag, Table, Tabled, Untagged, NextOpener, linesBehind}
 
@@ -140,8 +141,7 @@ module _ {s : List ℕ} {a i : ℕ} (w : Untagged s a i) where
             ∙ ap (λ (k : ℕ). tags line k (drop a s)) y;
       }
 
-  -- what `next_tag` says of the places that it passed over
-  pub untagged-past : {q : ℕ} → ((i ≤ q) × (q ≤ length s)) × Between (λ j. NoTag (drop j s)) i q → Untagged s a q
+  pub untagged-past : {q : ℕ} → PlainRun s i q → Untagged s a q
   untagged-past (h, f) = untagged-run (h, λ j l g. f j l g .0)
 
   pub untagged-byte : i < length s → openerSize (drop i s) ≡ 0 → Untagged s a (i + 1)

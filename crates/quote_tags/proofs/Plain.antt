@@ -1,4 +1,4 @@
--- Laws of bytes that no tag begins with: runs without `[`, and other bytes behind it. Assumes nothing.
+-- Laws of bytes that no quote tag begins with. Assumes nothing.
 use mathlib.Core.Path.{_≡_, refl, sym, ap, _∙_}
 use Prim.Native.Nat.{ℕ, zero, suc, _+_, _-_, _≤_, _<_}
 use native.Mathlib.Nat.{add-zero, le-of-suc-le-suc, not-suc-le-zero}
@@ -11,10 +11,11 @@ use lib.Dec.{eqb}
 use borrow.Author.Tests.{ne-eqb, eqb-false}
 use Rattle.text.specs.Ascii.{ascii, is, inside, small, begins, toFirst, toBracket}
 use Rattle.text.proofs.Bytes.{inside-true, look, look-past}
-use Rattle.quote_tags.specs.Tags.{NextBracket, beginsAny, tagSize, openers, closers, openerSize, closerSize, NoTag}
+use Rattle.quote_tags.specs.Tags.{NextBracket, beginsAny, openers, closers, openerSize, closerSize, NoTag}
+use Rattle.quote_tags.proofs.Places.{Between}
 use Rattle.quote_tags.proofs.Tagging.{tag-not}
 
--- ---- another first byte
+-- ---- another byte
 
 -- a byte below the small letters is read off no other byte
 pub small-other : (b c : ℕ) → c < 97 → (b ≡ c → ⊥) → small b ≡ c → ⊥
@@ -24,53 +25,6 @@ small-other b c lt n e = by (inside 65 90 b) refl e
     by : (t : Bool) → inside 65 90 b ≡ t → cond t (b + 32) b ≡ c → ⊥
     by true p q = let z = inside-true 65 90 b p in omega (arith, z .0, q)
     by false p q = n q
-
--- each word begins with `[`
-abbrev pub Bracketed : List (List ℕ) → Type 0
-Bracketed [] = Unit
-Bracketed (w ∷ ws) = (getD w 0 0 ≡ 91) × Bracketed ws
-
-first-other : (w : List ℕ) (b : ℕ) (x : List ℕ) → getD w 0 0 ≡ 91 → (b ≡ 91 → ⊥) → begins w (b ∷ x) ≡ false
-unfolding begins
-first-other [] b x e n = absurd (omega (arith, e))
-first-other (a ∷ w) b x e n = rw (ne-eqb (small b) a (λ q. small-other b 91 (omega arith) n (q ∙ e)))
-
-any-other : (ws : List (List ℕ)) (b : ℕ) (x : List ℕ) → Bracketed ws → (b ≡ 91 → ⊥) → beginsAny ws (b ∷ x) ≡ false
-unfolding beginsAny
-any-other [] b x h n = refl
-any-other (w ∷ ws) b x (e, h) n = rw (first-other w b x e n) (any-other ws b x h n)
-
-module _ (b : ℕ) (x : List ℕ) (n : b ≡ 91 → ⊥) where
-  pub size-plain : (ws : List (List ℕ)) → Bracketed ws → 0 ≡ tagSize ws (b ∷ x)
-  size-plain ws h = tag-not ws (b ∷ x) (any-other ws b x h n)
-
-  pub opener-plain : openerSize (b ∷ x) ≡ 0
-  unfolding openerSize
-  opener-plain = sym (size-plain openers (refl, (refl, (refl, tt))))
-
-  pub closer-plain : closerSize (b ∷ x) ≡ 0
-  unfolding closerSize
-  closer-plain = sym (size-plain closers (refl, tt))
-
--- what stands in a run is no `[`
-pub run-first : (n b : ℕ) (x : List ℕ) → suc n ≤ toFirst (is "[") (b ∷ x) → (b ≡ 91 → ⊥) × (n ≤ toFirst (is "[") x)
-unfolding toFirst
-run-first n b x h = by (is "[" b) refl h
-  where
-    by : (t : Bool) → eqb b 91 ≡ t → suc n ≤ cond t 0 (suc (toFirst (is "[") x)) → (b ≡ 91 → ⊥) × (n ≤ toFirst (is "[") x)
-    by true p q = absurd (not-suc-le-zero q)
-    by false p q = (eqb-false b 91 p, le-of-suc-le-suc q)
-
--- the next `]` of a place is that of a later one before it
-pub bracket-past : (s : List ℕ) (i q : ℕ) {b : ℕ} → i ≤ q → q ≤ length s → NextBracket s i b → NextBracket s q b
-unfolding toBracket
-bracket-past s i q {b} h le nb g =
-    let e : b ≡ i + toFirst (is "]") (drop i s) = nb (omega arith) in
-    let x : i + (q - i) ≡ q = omega arith in
-    let l = look-past (is "]") s i i (q - i) (look (is "]") s i (omega arith)) (omega arith) (omega arith) in
-    e ∙ sym (rw x at (l .ends))
-
--- ---- another byte
 
 pub byte-other : (k : ℕ) (w x : List ℕ) → k < length w → (small (getD x k 0) ≡ getD w k 0 → ⊥) → begins w x ≡ false
 unfolding begins
@@ -139,3 +93,18 @@ first-here s i = rw (getD-drop i s 0 0, add-zero)
 pub not-tag-at : (s : List ℕ) (i : ℕ) {r : Bool} {a b c : ℕ} → (r ≡ false → (x : List ℕ) → getD x 0 0 ≡ a → getD x 1 0 ≡ b → getD x 2 0 ≡ c → NoTag x)
     → a ≡ getD s i 0 → b ≡ getD s (i + 1) 0 → c ≡ getD s (i + 2) 0 → r ≡ false → NoTag (drop i s)
 not-tag-at s i f ea eb ec q = f q (drop i s) (first-here s i ∙ sym ea) (getD-drop i s 1 0 ∙ sym eb) (getD-drop i s 2 0 ∙ sym ec)
+
+-- ---- a run from one place up to another
+
+-- what `next_tag` says of it
+abbrev pub PlainRun : (s : List ℕ) (i q : ℕ) → Type 0
+PlainRun s i q = ((i ≤ q) × (q ≤ length s)) × Between (λ j. NoTag (drop j s)) i q
+
+-- the next `]` of a place is that of a later one before it
+pub bracket-past : (s : List ℕ) (i q : ℕ) {b : ℕ} → i ≤ q → q ≤ length s → NextBracket s i b → NextBracket s q b
+unfolding toBracket
+bracket-past s i q {b} h le nb g =
+    let e : b ≡ i + toFirst (is "]") (drop i s) = nb (omega arith) in
+    let x : i + (q - i) ≡ q = omega arith in
+    let l = look-past (is "]") s i i (q - i) (look (is "]") s i (omega arith)) (omega arith) (omega arith) in
+    e ∙ sym (rw x at (l .ends))
