@@ -44,12 +44,12 @@ unfolding tokens
 first-closer [] j z e = absurd (omega (arith, e, no-closer))
 first-closer (c ∷ x) j z e = let q : suc j - 1 ≡ j = omega arith in rw (z, e, q, tokens-skip j x)
 
-first-text : (c : Cell) (x : List Cell) → openerSize (bytes (c ∷ x)) ≡ 0 → closerSize (bytes (c ∷ x)) ≡ 0 → tokens 0 (c ∷ x) ≡ text c ∷ tokens 0 x
+pub first-text : (c : Cell) (x : List Cell) → openerSize (bytes (c ∷ x)) ≡ 0 → closerSize (bytes (c ∷ x)) ≡ 0 → tokens 0 (c ∷ x) ≡ text c ∷ tokens 0 x
 unfolding tokens
 first-text c x z e = rw (z, e)
 
 module _ (x : List Cell) (s : List ℕ) (e : bytes x ≡ s) (i : ℕ) where
-  bytes-at : bytes (drop i x) ≡ drop i s
+  pub bytes-at : bytes (drop i x) ≡ drop i s
   bytes-at = bytes-drop i x ∙ ap (drop i) e
 
   long : length x ≡ length s

@@ -14,6 +14,7 @@ use borrow.Author.Tests.{eqb-true, eq-eqb}
 use Rattle.text.specs.Ascii.{is, begins, small, inside, toFirst, toBracket}
 use Rattle.text.proofs.Bytes.{first-within, first-stops}
 use Rattle.quote_tags.proofs.Masking.{drop-take-take}
+use Rattle.quote_tags.proofs.Plain.{PlainRun}
 use Rattle.quote_tags.proofs.Places.{between-none, between-one}
 use Rattle.quote_tags.specs.Tags.{NextBracket, beginsAny, tagSize, upToBracket, openers, openerSize, attributionOf}
 use Rattle.quote_lines.specs.Lines.{Tag, bare, lineAfter, tags}
@@ -127,7 +128,7 @@ pub untagged : (s : List ℕ) (i : ℕ) → i ≤ length s → Untagged s i i
 untagged s i h = record { order = omega arith; inside = h; skip = λ line. (let z : i - i ≡ 0 = omega arith in rw z) }
 
 module _ {s : List ℕ} {a i : ℕ} (w : Untagged s a i) where
-  pub untagged-run : {q : ℕ} → ((i ≤ q) × (q ≤ length s)) × ((j : ℕ) → i ≤ j → j < q → openerSize (drop j s) ≡ 0) → Untagged s a q
+  untagged-run : {q : ℕ} → ((i ≤ q) × (q ≤ length s)) × ((j : ℕ) → i ≤ j → j < q → openerSize (drop j s) ≡ 0) → Untagged s a q
   untagged-run {q} ((le, lq), f) =
       let x : a + (i - a) ≡ i = omega (arith, w .order) in
       let y : i - a + (q - i) ≡ q - a = omega (arith, w .order) in
@@ -139,6 +140,9 @@ module _ {s : List ℕ} {a i : ℕ} (w : Untagged s a i) where
             ∙ under (i - a) (q - i) (drop a s) (λ l. rw d (run-skipped (q - i) l (drop i s) (λ j h. ap openerSize (drop-drop j i s) ∙ f (i + j) (omega arith) (omega arith)))) line
             ∙ ap (λ (k : ℕ). tags line k (drop a s)) y;
       }
+
+  pub untagged-past : {q : ℕ} → PlainRun s i q → Untagged s a q
+  untagged-past (h, f) = untagged-run (h, λ j l g. f j l g .0)
 
   pub untagged-byte : i < length s → openerSize (drop i s) ≡ 0 → Untagged s a (i + 1)
   untagged-byte lt e = untagged-run ((omega arith, omega arith), between-one (λ j. openerSize (drop j s) ≡ 0) i i (between-none (λ j. openerSize (drop j s) ≡ 0) i) e)

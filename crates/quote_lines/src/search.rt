@@ -1,7 +1,7 @@
 // The quote tags of the original text, and the line of a converted quote.
 use quote_tags::mask::mask_all;
 use quote_tags::tag::bracket_from;
-use quote_tags::tag::next_quote;
+use quote_tags::tag::next_tag;
 use quote_tags::tag::opens_quote;
 use quote_tags::tag::up_to_bracket;
 use text::PostAt;
@@ -154,7 +154,7 @@ fn next_opener(s: &[u8], at: PostAt, known: PostAt) -> Opener
     let mut i = at.0;
     let mut bracket = known;
     while i < s.len() {
-        let next = next_quote(s, PostAt(i));
+        let next = next_tag(s, PostAt(i));
         let here = opener_at(s, next, bracket);
         let size = here.size;
         if size != 0 {

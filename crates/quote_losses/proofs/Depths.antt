@@ -8,9 +8,9 @@ use mathlib.Core.List.{List}
 use lib.ListN.{length, drop}
 use borrow.Author.Tests.{lt-ltb, le-ltb}
 use lib.Dec.{ltb}
-use Rattle.text.specs.Ascii.{is, toFirst}
 use Rattle.text.specs.Cells.{Cell, bytes}
 use Rattle.quote_tags.specs.Tags.{openerSize, closerSize}
+use Rattle.quote_tags.proofs.Plain.{PlainRun}
 use Rattle.quote_blocks.specs.Quotes.{tokens, tooDeepFrom, tooDeep, DepthBehind, TooDeep}
 use Rattle.quote_steps.proofs.Texts.{read-run, deep-texts}
 use Rattle.quote_blocks.proofs.Reading.{read-opener, read-closer, read-text, read-end, deep-opener, deep-closer, deep-text}
@@ -25,14 +25,11 @@ module _ (s : List ℕ) (i d k : ℕ) (lt : i < length s) (h : d ≤ 64) (ek : k
     pub depth-closer : {d' : ℕ} → (j ≡ 0 → ⊥) → d' ≡ d - 1 → DepthBehind s i d (i + j) d'
     depth-closer n q = record { same = λ x e. ap (tooDeepFrom d) (read-closer x s e i ek z ej n) ∙ deep-closer d _ _ h q }
 
-    -- with the text up to the next `[`
-    pub depth-text : j ≡ 0 → {q : ℕ} → q ≡ i + 1 + toFirst (is "[") (drop (i + 1) s) → DepthBehind s i d q d
-    depth-text y {q} eq = record { same = λ x e. ap (tooDeepFrom d) (read-text x s e i lt ek z ej y) ∙ deep-text d _ _ h ∙ ap (cond (ltb 64 d) true) (later x e q eq) }
-      where
-        later : (x : List Cell) → bytes x ≡ s → (q : ℕ) → q ≡ i + 1 + toFirst (is "[") (drop (i + 1) s) → tooDeepFrom d (tokens 0 (drop (i + 1) x)) ≡ tooDeepFrom d (tokens 0 (drop q x))
-        later x e q eq =
-            let n : toFirst (is "[") (drop (i + 1) s) ≤ toFirst (is "[") (drop (i + 1) (bytes x)) = rw e (omega arith) in
-            ap (tooDeepFrom d) (read-run (i + 1) (toFirst (is "[") (drop (i + 1) s)) x n) ∙ deep-texts d _ _ ∙ rw (← eq)
+    -- with the text up to the next place where a quote tag may begin
+    pub depth-text : j ≡ 0 → {q : ℕ} → PlainRun s (i + 1) q → DepthBehind s i d q d
+    depth-text y run = record {
+      same = λ x e. ap (tooDeepFrom d) (read-text x s e i lt ek z ej y) ∙ deep-text d _ _ h ∙ ap (cond (ltb 64 d) true) (ap (tooDeepFrom d) (read-run x s e (i + 1) run) ∙ deep-texts d _ _);
+    }
 
 -- ---- all tokens
 

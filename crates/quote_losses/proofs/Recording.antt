@@ -6,7 +6,6 @@ use native.Mathlib.Omega.{arith}
 use mathlib.Core.List.{List, [], _∷_, _++_, append-assoc, append-nil}
 use lib.ListN.{length, take, drop, length-append, length-drop, drop-of-length-le}
 use lib.Seq.{drop-drop, length-take-le, take-at, drop-at, take-all}
-use Rattle.text.specs.Ascii.{is, toFirst}
 use Rattle.text.specs.Cells.{Cell, bytes}
 use Rattle.attribution_parts.specs.Attribution.{Loss, losses}
 use Rattle.attribution_losses.specs.Lists.{Puts, recordsOf, lossWords, Lists}
@@ -15,12 +14,12 @@ use Rattle.quote_tags.specs.Tags.{NextBracket, openers, closers, openerSize, cl
 use Rattle.quote_lines.specs.Lines.{Tag, tags, place, nextAfter, lineAt, linesFrom}
 use Rattle.quote_lines.specs.Tables.{Table}
 use Rattle.quote_tags.proofs.Tagging.{behind-within}
-use Rattle.quote_tags.proofs.Plain.{bracket-past}
+use Rattle.quote_tags.proofs.Plain.{PlainRun, bracket-past}
 use Rattle.quote_lines.proofs.Tabling.{opener-long}
 use Rattle.quote_blocks.specs.Quotes.{Token, tokens, attributionsIn, attributions}
 use Rattle.quote_blocks.proofs.Reading.{read-opener, read-closer, read-text, read-end}
 use Rattle.quote_steps.specs.Passes.{texts}
-use Rattle.quote_steps.proofs.Texts.{run-within, read-run}
+use Rattle.quote_steps.proofs.Texts.{read-run}
 use Rattle.quote_losses.specs.Losses.{lossesIn, quoteLosses, lossBytes, recordsFrom, recordsBy, namesAt, ListsToken, FewAt, ListsLosses}
 
 -- the attribution of an opener of k bytes at place i, as a part of the text
@@ -88,11 +87,8 @@ unfolding attributionsIn texts
 names-texts [] r = refl
 names-texts (c ∷ x) r = names-texts x r
 
--- no opener stands before the next `[`
-names-on : (x : List Cell) (s : List ℕ) → bytes x ≡ s → (i q : ℕ) → q ≡ i + 1 + toFirst (is "[") (drop (i + 1) s) → attributionsIn (tokens 0 (drop (i + 1) x)) ≡ attributionsIn (tokens 0 (drop q x))
-names-on x s e i q eq =
-    let n : toFirst (is "[") (drop (i + 1) s) ≤ toFirst (is "[") (drop (i + 1) (bytes x)) = rw e (omega arith) in
-    ap attributionsIn (read-run (i + 1) (toFirst (is "[") (drop (i + 1) s)) x n) ∙ names-texts _ _ ∙ rw (← eq)
+names-on : (x : List Cell) (s : List ℕ) → bytes x ≡ s → (i : ℕ) {q : ℕ} → PlainRun s i q → attributionsIn (tokens 0 (drop i x)) ≡ attributionsIn (tokens 0 (drop q x))
+names-on x s e i run = ap attributionsIn (read-run x s e i run) ∙ names-texts _ _
 
 -- what `list_token` says of the place behind a token
 abbrev Behind : (s : List ℕ) (i i' b quote k to : ℕ) → Type 0
@@ -148,13 +144,13 @@ module _ (s : List ℕ) (ts : List Tag) (rs bs : List ℕ) (i quote next k to : 
               none (i + j) (λ x e. ap attributionsIn (read-closer x s e i eo z ej n)),
             )
 
-        -- with the text up to the next `[`
-        pub lists-text : j ≡ 0 → {q : ℕ} → q ≡ i + 1 + toFirst (is "[") (drop (i + 1) s) → Lists-to rs bs q quote next k to
+        -- with the text up to the next place where a quote tag may begin
+        pub lists-text : j ≡ 0 → {q : ℕ} → PlainRun s (i + 1) q → Lists-to rs bs q quote next k to
         unfolding attributionsIn
-        lists-text y {q} eq =
-            let w = run-within s (i + 1) (omega arith) eq in (
+        lists-text y {q} run =
+            let w = run .0 in (
               ((omega (arith, w), w .1), (bracket-past s i q (omega (arith, w)) (w .1) nb, on q (omega (arith, w)))),
-              none q (λ x e. ap attributionsIn (read-text x s e i lt eo z ej y) ∙ names-on x s e i q eq),
+              none q (λ x e. ap attributionsIn (read-text x s e i lt eo z ej y) ∙ names-on x s e (i + 1) run),
             )
 
 -- ---- all tokens

@@ -7,10 +7,10 @@ use crate::deep::open_more;
 use attribution_losses::loss::put_losses;
 use quote_lines::search::attribution_size;
 use quote_lines::search::line_of;
+use quote_tags::tag::next_tag;
 use quote_tags::tag::tag_at;
 use text::PostAt;
 use text::scan::next_bracket;
-use text::scan::next_byte;
 ghost use mathlib.Core.Path.{_≡_};
 ghost use Prim.Native.Nat.{_≤_, _<_};
 ghost use lib.ListN.{length, take, drop};
@@ -32,7 +32,7 @@ pub struct Listing {
     pub bytes: usize,
 }
 
-// Lists the losses of the token at a place, a text with all up to the next `[`; `post` is the masked original text.
+// Lists the losses of the token at a place, a text with all up to the next place where a quote tag may begin; `post` is the masked original text.
 fn list_token(
     source: &[u8],
     post: &[u8],
@@ -93,7 +93,7 @@ fn list_token(
             bytes,
         };
     }
-    let later = next_byte(source, PostAt(i + 1), b'[');
+    let later = next_tag(source, PostAt(i + 1));
     Listing {
         at: later,
         bracket,

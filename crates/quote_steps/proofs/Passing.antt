@@ -10,7 +10,6 @@ use lib.Dec.{leb}
 use borrow.Author.Tests.{leb-false}
 use lib.ListN.{length, take, drop, getD, set, length-append, length-map}
 use lib.Seq.{length-take-le, getD-take, take-take, take-at, drop-at, getD-set-same, getD-set-other}
-use Rattle.text.specs.Ascii.{is, toFirst}
 use Rattle.text.specs.Cells.{Cell, cells, bytes, part, feed}
 use Rattle.text.specs.Writes.{Holds, Appends, AppendsIn}
 use Rattle.text.proofs.Writing.{holds-fits, cells-le, cells-short, cells-at, part-cons, part-end}
@@ -19,8 +18,9 @@ use Rattle.text.proofs.Clearing.{cells-bytes}
 use Rattle.text.proofs.Sources.{cells-taken}
 use Rattle.quote_blocks.proofs.Reading.{read-opener, read-closer, read-text, read-end}
 use Rattle.quote_tags.specs.Tags.{attributionOf, openerSize, closerSize}
+use Rattle.quote_tags.proofs.Plain.{PlainRun}
 use Rattle.quote_blocks.specs.Quotes.{Token, text, opens, closes, tokens, Quote, State, start, opening, held, total, close, closed, step, finish, run, quotes, finishNeed, runNeed, quotesNeed, quoteBlock, tooDeepFrom, tooDeep}
-use Rattle.quote_steps.proofs.Texts.{run-within, read-run, more-is, more-opened, run-texts, need-texts, texts-needed, deep-texts}
+use Rattle.quote_steps.proofs.Texts.{read-run, more-is, more-opened, run-texts, need-texts, texts-needed, deep-texts}
 use Rattle.quote_steps.specs.Passes.{texts, more, Stood, Stands, Closes, ClosesIn, Takes, TakesOne, Leaves, ClosesLast, ClosesAll, Reached, Runs}
 
 -- ---- an area
@@ -149,13 +149,11 @@ module _ (caption : List ℕ → List ℕ) (e end : ℕ) (P : List Cell) (bs ns 
   at-end : to ≡ length P + length (opening (s .opened) ++ s .now)
   at-end = w .text .end (holds-fits _ to _ (w .text) within) ∙ length-append P (opening (s .opened) ++ s .now)
 
-  -- the text up to the next `[`
-  reads-on : (i q : ℕ) → q ≡ i + 1 + toFirst (is "[") (drop (i + 1) (take e bs)) → q ≤ e → tokens 0 (drop (i + 1) (take e P)) ≡ texts (part (i + 1) q (cells bs ns)) (tokens 0 (drop q (take e P)))
+  reads-on : (i q : ℕ) → PlainRun (take e bs) i q → q ≤ e → tokens 0 (drop i (take e P)) ≡ texts (part i q (cells bs ns)) (tokens 0 (drop q (take e P)))
   unfolding part
-  reads-on i q eq le =
-      let h : toFirst (is "[") (drop (i + 1) (take e bs)) ≤ toFirst (is "[") (drop (i + 1) (bytes (take e P))) = rw text-bytes (omega arith) in
+  reads-on i q r le =
       let x : take q (take e P) ≡ take q (cells bs ns) = ap (take q) text-cells ∙ take-take q e (cells bs ns) le in
-      read-run (i + 1) (toFirst (is "[") (drop (i + 1) (take e bs))) (take e P) h ∙ rw (← eq, x)
+      read-run (take e P) (take e bs) text-bytes i r ∙ rw x
 
   joined-on : (c : Cell) (rest all : List Cell) → all ≡ c ∷ rest → (P ++ (opening (s .opened) ++ s .now)) ++ all ≡ P ++ (opening (s .opened) ++ ((s .now ++ c ∷ []) ++ rest))
   joined-on c rest all p =
@@ -184,13 +182,13 @@ module _ (caption : List ℕ → List ℕ) (e end : ℕ) (P : List Cell) (bs ns 
         }
 
     module _ {j : ℕ} (zk : k ≡ 0) (ej : j ≡ closerSize (drop i (take e bs))) where
-      -- with the text up to the next `[`
-      pub takes-text : j ≡ 0 → i < e → {q : ℕ} → q ≡ i + 1 + toFirst (is "[") (drop (i + 1) (take e bs)) → (v' : List Cell) (to' : ℕ) → Appends (take end (cells bs ns)) to v' to' (part i q (cells bs ns))
+      -- with the text up to the next place where a quote tag may begin
+      pub takes-text : j ≡ 0 → i < e → {q : ℕ} → PlainRun (take e bs) (i + 1) q → (v' : List Cell) (to' : ℕ) → Appends (take end (cells bs ns)) to v' to' (part i q (cells bs ns))
           → Takes caption e P (take end (cells bs ns)) to starts tags d i v' to' starts tags d q s
       unfolding step
-      takes-text zj lt {q} eq v' to' a =
+      takes-text zj lt {q} run v' to' a =
           let r : length (take e bs) ≡ e = length-take-le e bs (omega arith) in
-          let w' = run-within (take e bs) (i + 1) (omega arith) eq in
+          let w' = run .0 in
           let p : part i q (cells bs ns) ≡ getD (take e P) i feed ∷ part (i + 1) q (cells bs ns) =
           part-cons bs ns i q (omega (arith, w')) (omega (arith, w')) (omega (arith, w')) ∙ rw (text-cells, getD-take e (cells bs ns) i feed lt, cells-at bs ns i feed (omega arith) (omega arith)) in
           record {
@@ -198,7 +196,7 @@ module _ (caption : List ℕ → List ℕ) (e end : ℕ) (P : List Cell) (bs ns 
             behind = part (i + 1) q (cells bs ns);
             reads =
                 read-text (take e P) (take e bs) text-bytes i (omega arith) ek zk ej zj
-                ∙ ap (λ (x : List Token). text (getD (take e P) i feed) ∷ x) (reads-on i q eq (omega (arith, w')));
+                ∙ ap (λ (x : List Token). text (getD (take e P) i feed) ∷ x) (reads-on (i + 1) q run (omega (arith, w')));
             stands = subst (Stands e P v' to' starts tags d) (sym (more-is (part (i + 1) q (cells bs ns)) (step caption (text (getD (take e P) i feed)) s))) (record {
               text = subst (Holds v' to') (joined-on (getD (take e P) i feed) (part (i + 1) q (cells bs ns)) (part i q (cells bs ns)) p) (a .step _ (w .text));
               deep = w .deep;
@@ -299,9 +297,9 @@ module _ (caption : List ℕ → List ℕ) (e base end : ℕ) (bs ns : List ℕ)
           → TakesOne caption e base end bs ns to starts tags d i bs' ns' to' starts tags (d - 1) (i + j)
       closer-taken n pos cl = record { each = λ P s eP w. takes-close caption e end P bs ns to starts tags d s w (omega arith) (omega arith) hb hn ht i ek zk ej n pos _ _ (λ now q qs h. cl .each P now q qs eP h) }
 
-      pub text-taken : j ≡ 0 → {q : ℕ} → q ≡ i + 1 + toFirst (is "[") (drop (i + 1) (take e bs)) → {bs' ns' : List ℕ} {to' : ℕ} → AppendsIn bs ns end to bs' ns' to' (part i q (cells bs ns))
+      pub text-taken : j ≡ 0 → {q : ℕ} → PlainRun (take e bs) (i + 1) q → {bs' ns' : List ℕ} {to' : ℕ} → AppendsIn bs ns end to bs' ns' to' (part i q (cells bs ns))
           → TakesOne caption e base end bs ns to starts tags d i bs' ns' to' starts tags d q
-      text-taken zj eq a = record { each = λ P s eP w. takes-text caption e end P bs ns to starts tags d s w (omega arith) (omega arith) hb hn ht i ek zk ej zj lt eq _ _ (a .appends) }
+      text-taken zj run a = record { each = λ P s eP w. takes-text caption e end P bs ns to starts tags d s w (omega arith) (omega arith) hb hn ht i ek zk ej zj lt run _ _ (a .appends) }
 
 -- ---- all tokens
 

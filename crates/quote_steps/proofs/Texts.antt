@@ -1,40 +1,37 @@
--- Laws of a run of text: cells up to a `[`, each a token of its own. Assumes nothing.
-use mathlib.Core.Path.{_≡_, refl, sym, ap, _∙_}
+-- Laws of a run of text: cells where no quote tag begins, each a token of its own. Assumes nothing.
+use mathlib.Core.Path.{_≡_, refl, sym, ap, subst, _∙_}
 use Prim.Native.Nat.{ℕ, zero, suc, _+_, _-_, _≤_, _<_, max}
-use native.Mathlib.Nat.{zero-add, suc-add}
 use native.Mathlib.Omega.{arith}
-use mathlib.Core.Bool.{Bool}
 use mathlib.Core.List.{List, [], _∷_, _++_, append-assoc, append-nil}
-use lib.ListN.{length, take, drop, length-append, length-drop}
-use Rattle.text.specs.Ascii.{is, toFirst}
+use lib.ListN.{length, take, drop, length-append, length-map}
+use lib.Seq.{drop-drop}
 use Rattle.text.specs.Cells.{Cell, bytes, part}
-use Rattle.text.proofs.Bytes.{first-within}
-use Rattle.quote_tags.proofs.Plain.{run-first, opener-plain, closer-plain}
+use Rattle.text.proofs.Sources.{part-take}
+use Rattle.quote_tags.specs.Tags.{NoTag}
+use Rattle.quote_tags.proofs.Plain.{PlainRun}
+use Rattle.quote_blocks.proofs.Reading.{first-text, bytes-at}
 use Rattle.quote_blocks.specs.Quotes.{Token, text, tokens, State, held, total, step, run, runNeed, tooDeepFrom}
 use Rattle.quote_steps.specs.Passes.{texts, more}
 
 -- ---- reading it
 
-pub run-within : (s : List ℕ) (i : ℕ) {q : ℕ} → i ≤ length s → q ≡ i + toFirst (is "[") (drop i s) → (i ≤ q) × (q ≤ length s)
-run-within s i h e = let f = first-within (is "[") (drop i s) in let l = length-drop i s in (omega (arith, e), omega (arith, e, f, l))
-
-first-plain : (c : Cell) (x : List Cell) → (c .byte ≡ 91 → ⊥) → tokens 0 (c ∷ x) ≡ text c ∷ tokens 0 x
-unfolding tokens
-first-plain c x n = rw (opener-plain (c .byte) (bytes x) n, closer-plain (c .byte) (bytes x) n)
-
-run-text : (n : ℕ) (x : List Cell) → n ≤ toFirst (is "[") (bytes x) → tokens 0 x ≡ texts (take n x) (tokens 0 (drop n x))
+run-text : (n : ℕ) (x : List Cell) → ((j : ℕ) → j < n → NoTag (drop j (bytes x))) → tokens 0 x ≡ texts (take n x) (tokens 0 (drop n x))
 unfolding texts
-run-text zero x h = refl
-run-text (suc n) [] h = refl
-run-text (suc n) (c ∷ x) h =
-    let f = run-first n (c .byte) (bytes x) h in
-    first-plain c x (f .0) ∙ ap (λ (r : List Token). text c ∷ r) (run-text n x (f .1))
+run-text zero x f = refl
+run-text (suc n) [] f = refl
+run-text (suc n) (c ∷ x) f =
+    let z = f 0 (omega arith) in
+    first-text c x (z .0) (z .1) ∙ ap (λ (r : List Token). text c ∷ r) (run-text n x (λ j h. f (suc j) (omega arith)))
 
-pub read-run : (j n : ℕ) (x : List Cell) → n ≤ toFirst (is "[") (drop j (bytes x)) → tokens 0 (drop j x) ≡ texts (part j (j + n) x) (tokens 0 (drop (j + n) x))
-unfolding part texts tokens
-read-run zero n x h = rw zero-add (run-text n x h)
-read-run (suc j) n [] h = rw suc-add
-read-run (suc j) n (c ∷ x) h = rw suc-add (read-run j n x h)
+-- x is the text and s its bytes
+pub read-run : (x : List Cell) (s : List ℕ) → bytes x ≡ s → (i : ℕ) {q : ℕ} → PlainRun s i q → tokens 0 (drop i x) ≡ texts (part i q x) (tokens 0 (drop q x))
+read-run x s e i {q} ((h, le), f) =
+    let l = length-map x (λ (c : Cell). c .byte) in
+    let m = ap length e in
+    let z : i + (q - i) ≡ q = omega arith in
+    let p : take (q - i) (drop i x) ≡ part i q x = sym (part-take x i (q - i) (omega (arith, l, m))) ∙ ap (λ (k : ℕ). part i k x) z in
+    let d : drop (q - i) (drop i x) ≡ drop q x = drop-drop (q - i) i x ∙ ap (λ (k : ℕ). drop k x) z in
+    run-text (q - i) (drop i x) (λ j g. subst NoTag (sym (ap (drop j) (bytes-at x s e i) ∙ drop-drop j i s)) (f (i + j) (omega arith) (omega arith))) ∙ rw (p, d)
 
 pub deep-texts : (d : ℕ) (x : List Cell) (r : List Token) → tooDeepFrom d (texts x r) ≡ tooDeepFrom d r
 unfolding tooDeepFrom texts

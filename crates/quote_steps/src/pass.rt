@@ -1,12 +1,12 @@
 // The pass in work memory: the text stands before e, and the open contents one behind another from `base` on, in an area that ends at
 // `end`. Where a content would go past it, the need exceeds the room.
 use crate::close::close_innermost;
+use quote_tags::tag::next_tag;
 use quote_tags::tag::tag_at;
 use text::PostAt;
 use text::TextAt;
 use text::area::copy_within;
 use text::scan::next_bracket;
-use text::scan::next_byte;
 ghost use mathlib.Core.Path.{_≡_};
 ghost use mathlib.Core.Bool.{false};
 ghost use Prim.Native.Nat.{_+_, _-_, _≤_, _<_};
@@ -28,7 +28,7 @@ pub struct Open {
     pub depth: usize,
 }
 
-// Takes one token of the text before e, a text with all up to the next `[`.
+// Takes one token of the text before e, a text with all up to the next place where a quote tag may begin.
 fn take_token(
     work: &mut [u8],
     numbers: &mut [u32],
@@ -93,7 +93,7 @@ fn take_token(
             depth: depth - 1,
         };
     }
-    let next = next_byte(&work[..e], PostAt(i + 1), b'[');
+    let next = next_tag(&work[..e], PostAt(i + 1));
     let r = copy_within(work, numbers, at, next, end, to);
     Open {
         at: next,

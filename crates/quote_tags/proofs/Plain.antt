@@ -1,4 +1,4 @@
--- Laws of bytes that no tag begins with: runs without `[`, and other bytes behind it. Assumes nothing.
+-- Laws of bytes that no quote tag begins with. Assumes nothing.
 use mathlib.Core.Path.{_≡_, refl, sym, ap, _∙_}
 use Prim.Native.Nat.{ℕ, zero, suc, _+_, _-_, _≤_, _<_}
 use native.Mathlib.Nat.{add-zero, le-of-suc-le-suc, not-suc-le-zero}
@@ -11,65 +11,20 @@ use lib.Dec.{eqb}
 use borrow.Author.Tests.{ne-eqb, eqb-false}
 use Rattle.text.specs.Ascii.{ascii, is, inside, small, begins, toFirst, toBracket}
 use Rattle.text.proofs.Bytes.{inside-true, look, look-past}
-use Rattle.quote_tags.specs.Tags.{NextBracket, beginsAny, tagSize, openers, closers, openerSize, closerSize}
+use Rattle.quote_tags.specs.Tags.{NextBracket, beginsAny, openers, closers, openerSize, closerSize, NoTag}
+use Rattle.quote_tags.proofs.Places.{Between}
 use Rattle.quote_tags.proofs.Tagging.{tag-not}
 
--- ---- another first byte
+-- ---- another byte
 
-pub small-open : (b : ℕ) → (b ≡ 91 → ⊥) → small b ≡ 91 → ⊥
+-- a byte below the small letters is read off no other byte
+pub small-other : (b c : ℕ) → c < 97 → (b ≡ c → ⊥) → small b ≡ c → ⊥
 unfolding small
-small-open b n e = by (inside 65 90 b) refl e
+small-other b c lt n e = by (inside 65 90 b) refl e
   where
-    by : (t : Bool) → inside 65 90 b ≡ t → cond t (b + 32) b ≡ 91 → ⊥
+    by : (t : Bool) → inside 65 90 b ≡ t → cond t (b + 32) b ≡ c → ⊥
     by true p q = let z = inside-true 65 90 b p in omega (arith, z .0, q)
     by false p q = n q
-
--- each word begins with `[`
-abbrev pub Bracketed : List (List ℕ) → Type 0
-Bracketed [] = Unit
-Bracketed (w ∷ ws) = (getD w 0 0 ≡ 91) × Bracketed ws
-
-first-other : (w : List ℕ) (b : ℕ) (x : List ℕ) → getD w 0 0 ≡ 91 → (b ≡ 91 → ⊥) → begins w (b ∷ x) ≡ false
-unfolding begins
-first-other [] b x e n = absurd (omega (arith, e))
-first-other (a ∷ w) b x e n = rw (ne-eqb (small b) a (λ q. small-open b n (q ∙ e)))
-
-any-other : (ws : List (List ℕ)) (b : ℕ) (x : List ℕ) → Bracketed ws → (b ≡ 91 → ⊥) → beginsAny ws (b ∷ x) ≡ false
-unfolding beginsAny
-any-other [] b x h n = refl
-any-other (w ∷ ws) b x (e, h) n = rw (first-other w b x e n) (any-other ws b x h n)
-
-module _ (b : ℕ) (x : List ℕ) (n : b ≡ 91 → ⊥) where
-  pub size-plain : (ws : List (List ℕ)) → Bracketed ws → 0 ≡ tagSize ws (b ∷ x)
-  size-plain ws h = tag-not ws (b ∷ x) (any-other ws b x h n)
-
-  pub opener-plain : openerSize (b ∷ x) ≡ 0
-  unfolding openerSize
-  opener-plain = sym (size-plain openers (refl, (refl, (refl, tt))))
-
-  pub closer-plain : closerSize (b ∷ x) ≡ 0
-  unfolding closerSize
-  closer-plain = sym (size-plain closers (refl, tt))
-
--- what stands in a run is no `[`
-pub run-first : (n b : ℕ) (x : List ℕ) → suc n ≤ toFirst (is "[") (b ∷ x) → (b ≡ 91 → ⊥) × (n ≤ toFirst (is "[") x)
-unfolding toFirst
-run-first n b x h = by (is "[" b) refl h
-  where
-    by : (t : Bool) → eqb b 91 ≡ t → suc n ≤ cond t 0 (suc (toFirst (is "[") x)) → (b ≡ 91 → ⊥) × (n ≤ toFirst (is "[") x)
-    by true p q = absurd (not-suc-le-zero q)
-    by false p q = (eqb-false b 91 p, le-of-suc-le-suc q)
-
--- the next `]` of a place is that of a later one before it
-pub bracket-past : (s : List ℕ) (i q : ℕ) {b : ℕ} → i ≤ q → q ≤ length s → NextBracket s i b → NextBracket s q b
-unfolding toBracket
-bracket-past s i q {b} h le nb g =
-    let e : b ≡ i + toFirst (is "]") (drop i s) = nb (omega arith) in
-    let x : i + (q - i) ≡ q = omega arith in
-    let l = look-past (is "]") s i i (q - i) (look (is "]") s i (omega arith)) (omega arith) (omega arith) in
-    e ∙ sym (rw x at (l .ends))
-
--- ---- another byte
 
 pub byte-other : (k : ℕ) (w x : List ℕ) → k < length w → (small (getD x k 0) ≡ getD w k 0 → ⊥) → begins w x ≡ false
 unfolding begins
@@ -102,14 +57,28 @@ openers-other x p q r = none _ _ _ p q r
     none : (a b c : Bool) → a ≡ false → b ≡ false → c ≡ false → (a || (b || (c || false))) ≡ false
     none a b c p q r = rw (p, q, r)
 
+closers-other : (x : List ℕ) → begins (ascii "[/quote]") x ≡ false → beginsAny closers x ≡ false
+unfolding beginsAny
+closers-other x p = rw p
+
 -- the bytes that a function compared
-pub not-quote : (x : List ℕ) {a b : ℕ} → (eqb a 91 && (eqb b 113 || eqb b 81)) ≡ false → getD x 0 0 ≡ a → getD x 1 0 ≡ b → openerSize x ≡ 0
-unfolding openerSize
-not-quote x {a} {b} h ea eb = sym (tag-not openers x (by (eqb a 91) refl h))
+pub not-tag : (x : List ℕ) {a b c : ℕ} → (eqb a 91 && ((eqb b 113 || eqb b 81) || (eqb b 47 && (eqb c 113 || eqb c 81)))) ≡ false
+    → getD x 0 0 ≡ a → getD x 1 0 ≡ b → getD x 2 0 ≡ c → NoTag x
+unfolding openerSize closerSize
+not-tag x {a} {b} {c} h ea eb ec = let n = by (eqb a 91) refl h in (sym (tag-not openers x (n .0)), sym (tag-not closers x (n .1)))
   where
-    by : (t : Bool) → eqb a 91 ≡ t → (t && (eqb b 113 || eqb b 81)) ≡ false → beginsAny openers x ≡ false
-    by false p q = let f = small-open a (eqb-false a 91 p) in let g : small (getD x 0 0) ≡ 91 → ⊥ = λ z. f (ap small (sym ea) ∙ z) in openers-other x (byte-other 0 _ x (omega arith) g) (byte-other 0 _ x (omega arith) g) (byte-other 0 _ x (omega arith) g)
-    by true p q = let g : small (getD x 1 0) ≡ 113 → ⊥ = λ z. letter-other b 81 q (ap small (sym eb) ∙ z) in openers-other x (byte-other 1 _ x (omega arith) g) (byte-other 1 _ x (omega arith) g) (byte-other 1 _ x (omega arith) g)
+    by-slash : (t : Bool) → eqb b 47 ≡ t → (t && (eqb c 113 || eqb c 81)) ≡ false → begins (ascii "[/quote]") x ≡ false
+    by-slash false p q = byte-other 1 _ x (omega arith) (λ z. small-other b 47 (omega arith) (eqb-false b 47 p) (ap small (sym eb) ∙ z))
+    by-slash true p q = byte-other 2 _ x (omega arith) (λ z. letter-other c 81 q (ap small (sym ec) ∙ z))
+
+    by : (t : Bool) → eqb a 91 ≡ t → (t && ((eqb b 113 || eqb b 81) || (eqb b 47 && (eqb c 113 || eqb c 81)))) ≡ false → (beginsAny openers x ≡ false) × (beginsAny closers x ≡ false)
+    by false p q =
+        let g : small (getD x 0 0) ≡ 91 → ⊥ = λ z. small-other a 91 (omega arith) (eqb-false a 91 p) (ap small (sym ea) ∙ z) in
+        (openers-other x (byte-other 0 _ x (omega arith) g) (byte-other 0 _ x (omega arith) g) (byte-other 0 _ x (omega arith) g), closers-other x (byte-other 0 _ x (omega arith) g))
+    by true p q =
+        let r = neither (eqb b 113 || eqb b 81) (eqb b 47 && (eqb c 113 || eqb c 81)) q in
+        let g : small (getD x 1 0) ≡ 113 → ⊥ = λ z. letter-other b 81 (r .0) (ap small (sym eb) ∙ z) in
+        (openers-other x (byte-other 1 _ x (omega arith) g) (byte-other 1 _ x (omega arith) g) (byte-other 1 _ x (omega arith) g), closers-other x (by-slash (eqb b 47) refl (r .1)))
 
 module _ (s : List ℕ) (i : ℕ) {y t : ℕ} (ey : y ≡ getD s (i + 1) 0) (et : t ≡ small y) where
   pub second-not : (a c : ℕ) (w : List ℕ) → (t ≡ c → ⊥) → begins (a ∷ c ∷ w) (drop i s) ≡ false
@@ -121,6 +90,21 @@ module _ (s : List ℕ) (i : ℕ) {y t : ℕ} (ey : y ≡ getD s (i + 1) 0) (et 
 pub first-here : (s : List ℕ) (i : ℕ) → getD (drop i s) 0 0 ≡ getD s i 0
 first-here s i = rw (getD-drop i s 0 0, add-zero)
 
-pub not-quote-at : (s : List ℕ) (i : ℕ) {r : Bool} {a b : ℕ} → (r ≡ false → (x : List ℕ) → getD x 0 0 ≡ a → getD x 1 0 ≡ b → openerSize x ≡ 0)
-    → a ≡ getD s i 0 → b ≡ getD s (i + 1) 0 → r ≡ false → openerSize (drop i s) ≡ 0
-not-quote-at s i f ea eb q = f q (drop i s) (first-here s i ∙ sym ea) (getD-drop i s 1 0 ∙ sym eb)
+pub not-tag-at : (s : List ℕ) (i : ℕ) {r : Bool} {a b c : ℕ} → (r ≡ false → (x : List ℕ) → getD x 0 0 ≡ a → getD x 1 0 ≡ b → getD x 2 0 ≡ c → NoTag x)
+    → a ≡ getD s i 0 → b ≡ getD s (i + 1) 0 → c ≡ getD s (i + 2) 0 → r ≡ false → NoTag (drop i s)
+not-tag-at s i f ea eb ec q = f q (drop i s) (first-here s i ∙ sym ea) (getD-drop i s 1 0 ∙ sym eb) (getD-drop i s 2 0 ∙ sym ec)
+
+-- ---- a run from one place up to another
+
+-- what `next_tag` says of it
+abbrev pub PlainRun : (s : List ℕ) (i q : ℕ) → Type 0
+PlainRun s i q = ((i ≤ q) × (q ≤ length s)) × Between (λ j. NoTag (drop j s)) i q
+
+-- the next `]` of a place is that of a later one before it
+pub bracket-past : (s : List ℕ) (i q : ℕ) {b : ℕ} → i ≤ q → q ≤ length s → NextBracket s i b → NextBracket s q b
+unfolding toBracket
+bracket-past s i q {b} h le nb g =
+    let e : b ≡ i + toFirst (is "]") (drop i s) = nb (omega arith) in
+    let x : i + (q - i) ≡ q = omega arith in
+    let l = look-past (is "]") s i i (q - i) (look (is "]") s i (omega arith)) (omega arith) (omega arith) in
+    e ∙ sym (rw x at (l .ends))

@@ -15,7 +15,7 @@ use Rattle.quote_tags.specs.Masks.{Mask, region, shown, masked, code, ic
 use Rattle.quote_tags.proofs.Tagging.{tag-not}
 use Rattle.quote_tags.proofs.Masking.{region-none}
 use Rattle.quote_tags.proofs.Places.{Between}
-use Rattle.quote_tags.proofs.Plain.{small-open, byte-other, neither, letter-other, first-here}
+use Rattle.quote_tags.proofs.Plain.{small-other, byte-other, neither, letter-other, first-here}
 
 -- ---- a mask where none begins
 
@@ -76,7 +76,7 @@ small-bracket = refl
 module _ (x : List ℕ) where
   pub no-tag : (getD x 0 0 ≡ 91 → ⊥) → NoMask x
   no-tag n =
-      let f = small-open (getD x 0 0) n in
+      let f = small-other (getD x 0 0) 91 (omega arith) n in
       no-mask x (byte-other 0 _ x (omega arith) f) (byte-other 0 _ x (omega arith) f) (byte-other 0 _ x (omega arith) f) (byte-other 0 _ x (omega arith) f)
 
   -- the bytes that a function compared

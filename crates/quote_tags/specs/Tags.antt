@@ -3,6 +3,7 @@
 --   tagSize ws s     of the tag that s begins with: one of the words ws and anything up to `]`; 0 where it begins with none
 --   openerSize s     `[quote]`, or `[quote` with `=` or space and anything up to `]`
 --   closerSize s     `[/quote]`
+--   NoTag s          s begins with no quote tag
 --   attributionOf s  what stands between `=` or space and `]`, where s begins with an opener
 --   NextBracket s i b  the place b of the first `]` from i on, or the end, where it is not before i
 -- Assumes nothing.
@@ -36,6 +37,9 @@ openerSize s = tagSize openers s
 
 unfoldable pub closerSize : List ℕ → ℕ
 closerSize s = tagSize closers s
+
+abbrev pub NoTag : List ℕ → Type 0
+NoTag s = (openerSize s ≡ 0) × (closerSize s ≡ 0)
 
 unfoldable pub attributionOf : List ℕ → List ℕ
 attributionOf s = take (openerSize s - 8) (drop 7 s)

@@ -10,7 +10,7 @@ ghost use mathlib.Core.List.{List};
 ghost use Prim.Native.Nat.{ℕ, _+_, _≤_, _<_};
 ghost use lib.ListN.{length, drop, getD};
 ghost use Rattle.text.specs.Ascii.{toBracket};
-ghost use Rattle.quote_tags.specs.Tags.{NextBracket, upToBracket, beginsAny, openers, openerSize, closerSize};
+ghost use Rattle.quote_tags.specs.Tags.{NextBracket, upToBracket, beginsAny, openers, openerSize, closerSize, NoTag};
 
 // The place of the first `]` from a place on, or the end, where `known` is that place or lies before.
 pub fn bracket_from(s: &[u8], at: PostAt, known: PostAt) -> PostAt
@@ -57,35 +57,35 @@ pub fn opens_quote(s: &[u8], at: PostAt) -> bool
     begins_at(s, at, b"[quote ")
 }
 
-// Whether a quote opener may begin with these bytes.
-fn may_open(a: u8, b: u8) -> bool
-    ensures { λ r. ⌜ (r ≡ false → (x : List ℕ) → getD x 0 0 ≡ a → getD x 1 0 ≡ b → openerSize x ≡ 0) ⌝ }
+// Whether a quote tag may begin with these bytes: `[q`, or `[/q`.
+fn may_begin(a: u8, b: u8, c: u8) -> bool
+    ensures { λ r. ⌜ (r ≡ false → (x : List ℕ) → getD x 0 0 ≡ a → getD x 1 0 ≡ b → getD x 2 0 ≡ c → NoTag x) ⌝ }
 {
-    (a == b'[') & ((b == b'q') | (b == b'Q'))
+    (a == b'[') & ((b == b'q') | (b == b'Q') | ((b == b'/') & ((c == b'q') | (c == b'Q'))))
 }
 
-// Whether a quote opener may begin among the 16 bytes from i on: one comparison of all 16 where the machine has it.
-fn quote_in_16(s: &[u8], i: usize) -> bool
-    requires { ⌜ i + 17 ≤ length (now s) ⌝ }
-    ensures { λ r. ⌜ (r ≡ false → (j : ℕ) → i ≤ j → j < i + 16 → openerSize (drop j (now (s .entry))) ≡ 0) ⌝ }
+// Whether a quote tag may begin among the 16 bytes from i on: a few comparisons of all 16 where the machine has them.
+fn tag_in_16(s: &[u8], i: usize) -> bool
+    requires { ⌜ i + 18 ≤ length (now s) ⌝ }
+    ensures { λ r. ⌜ (r ≡ false → (j : ℕ) → i ≤ j → j < i + 16 → NoTag (drop j (now (s .entry)))) ⌝ }
 {
     let mut stands = false;
     let mut k: usize = 0;
     while k < 16 {
-        stands = stands | may_open(s[i + k], s[i + k + 1]);
+        stands = stands | may_begin(s[i + k], s[i + k + 1], s[i + k + 2]);
         k += 1;
     }
     stands
 }
 
-// The place from which on to look for a quote opener one by one: none begins between.
+// The place from which on to look for a quote tag one by one: none begins between.
 fn past_16s(s: &[u8], at: usize) -> usize
     requires { ⌜ at ≤ length (now s) ⌝ }
-    ensures { λ r. ⌜ ((at ≤ r) × (r ≤ length (now (s .entry)))) × ((j : ℕ) → at ≤ j → j < r → openerSize (drop j (now (s .entry))) ≡ 0) ⌝ }
+    ensures { λ r. ⌜ ((at ≤ r) × (r ≤ length (now (s .entry)))) × ((j : ℕ) → at ≤ j → j < r → NoTag (drop j (now (s .entry)))) ⌝ }
 {
     let mut i = at;
-    while 17 <= s.len() - i {
-        if quote_in_16(s, i) {
+    while 18 <= s.len() - i {
+        if tag_in_16(s, i) {
             return i;
         }
         i += 16;
@@ -93,14 +93,14 @@ fn past_16s(s: &[u8], at: usize) -> usize
     i
 }
 
-// The first place from a place on where a quote opener may begin, or the end.
-pub fn next_quote(s: &[u8], at: PostAt) -> PostAt
+// The first place from a place on where a quote tag may begin, or the end.
+pub fn next_tag(s: &[u8], at: PostAt) -> PostAt
     requires { ⌜ at .0 ≤ length (now s) ⌝ }
-    ensures { λ r. ⌜ ((at .0 ≤ r .0) × (r .0 ≤ length (now (s .entry)))) × ((j : ℕ) → at .0 ≤ j → j < r .0 → openerSize (drop j (now (s .entry))) ≡ 0) ⌝ }
+    ensures { λ r. ⌜ ((at .0 ≤ r .0) × (r .0 ≤ length (now (s .entry)))) × ((j : ℕ) → at .0 ≤ j → j < r .0 → NoTag (drop j (now (s .entry)))) ⌝ }
 {
     let mut i = past_16s(s, at.0);
     while i < s.len() {
-        if may_open(s[i], byte_at(s, i + 1)) {
+        if may_begin(s[i], byte_at(s, i + 1), byte_at(s, i + 2)) {
             return PostAt(i);
         }
         i += 1;

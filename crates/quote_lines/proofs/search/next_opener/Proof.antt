@@ -5,7 +5,7 @@ use Prim.Native.Nat.{ℕ, suc, _+_, _-_, _≤_, _<_}
 use mathlib.Core.List.{List, [], _∷_, _++_}
 use lib.ListN.{length, getD}
 use Rattle.quote_tags.proofs.Plain.{bracket-past}
-use Rattle.quote_lines.proofs.Tabling.{untagged, untagged-run, untagged-byte, opener-found, opener-missing}
+use Rattle.quote_lines.proofs.Tabling.{untagged, untagged-past, untagged-byte, opener-found, opener-missing}
 use Rattle.quote_tags.specs.Tags.{NextBracket}
 use Rattle.quote_lines.specs.Tables.{Untagged}
 use Rattle.quote_lines.proofs.search.next_opener.Statement.{statement}
@@ -13,7 +13,7 @@ use Rattle.quote_lines.proofs.search.next_opener.Tie as tie
 use Rattle.quote_lines.proofs.search.next_opener.Reads as reads
 use Rattle.quote_lines.proofs.search.next_opener.Lts as lts
 use Rattle.quote_lines.proofs.search.opener_at.Reads as opener-at-reads
-use Rattle.quote_tags.proofs.tag.next_quote.Reads as next-quote-reads
+use Rattle.quote_tags.proofs.tag.next_tag.Reads as next-tag-reads
 
 abbrev Inv-loop : tie.InvT-loop
 Inv-loop s i₀ bracket₀ i bracket = Untagged s i₀ i × NextBracket s i (bracket .0)
@@ -21,39 +21,30 @@ Inv-loop s i₀ bracket₀ i bracket = Untagged s i₀ i × NextBracket s i (bra
 abbrev μ-loop : tie.MeasureT-loop
 μ-loop s i₀ bracket₀ i bracket = length s - i
 
--- src/search.rt:161:5
 loop-holds : tie.Need-loop-holds Inv-loop μ-loop
 loop-holds c = let a = c .before in (untagged _ _ (a .pre .0), a .pre .1)
 
--- src/search.rt:162:13
-next-quote-requires : tie.Need-next-quote-requires Inv-loop μ-loop
-next-quote-requires c κs = search needs
+next-tag-requires : tie.Need-next-tag-requires Inv-loop μ-loop
+next-tag-requires c κs = search needs
 
--- src/search.rt:163:13
 opener-at-requires : tie.Need-opener-at-requires Inv-loop μ-loop
-opener-at-requires c κs = let l = c .before .before .loop in let e = c .next-quote .ensures in let u = untagged-run (l .inv .0) e in (u .inside, bracket-past _ (l .i) _ (e .0 .0) (u .inside) (l .inv .1))
+opener-at-requires c κs = let l = c .before .before .loop in let e = c .next-tag .ensures in let u = untagged-past (l .inv .0) e in (u .inside, bracket-past _ (l .i) _ (e .0 .0) (u .inside) (l .inv .1))
 
--- src/search.rt:166:13
 returns : tie.Need-returns Inv-loop μ-loop
-returns c = let l = c .before .before .before .before .loop in let o = c .before .opener-at .ensures in opener-found (untagged-run (l .inv .0) (c .before .before .next-quote .ensures)) (o .0 .0) (o .0 .1) (o .1 .0) (o .1 .1) (c .if1 .taken)
+returns c = let l = c .before .before .before .before .loop in let o = c .before .opener-at .ensures in opener-found (untagged-past (l .inv .0) (c .before .before .next-tag .ensures)) (o .0 .0) (o .0 .1) (o .1 .0) (o .1 .1) (c .if1 .taken)
 
--- src/search.rt:171:13
 returns-2 : tie.Need-returns-2 Inv-loop μ-loop
-returns-2 c = let l = c .before .before .before .before .before .before .loop in let o = c .before .before .before .opener-at .ensures in opener-missing (untagged-run (l .inv .0) (c .before .before .before .before .next-quote .ensures)) (o .1 .0) (c .if2 .taken)
+returns-2 c = let l = c .before .before .before .before .before .before .loop in let o = c .before .before .before .opener-at .ensures in opener-missing (untagged-past (l .inv .0) (c .before .before .before .before .next-tag .ensures)) (o .1 .0) (c .if2 .taken)
 
--- src/search.rt:177:9
 add-i : tie.Need-add-i Inv-loop μ-loop
 add-i c = search needs
 
--- src/search.rt:161:5
 loop-less : tie.Need-loop-less Inv-loop μ-loop
-loop-less c = omega (arith, c .before .before .before .before .next-quote .ensures .0, c .if2 .left)
+loop-less c = omega (arith, c .before .before .before .before .next-tag .ensures .0, c .if2 .left)
 
--- src/search.rt:161:5
 loop-again : tie.Need-loop-again Inv-loop μ-loop
-loop-again c = let l = c .before .before .before .before .before .before .loop in let o = c .before .before .before .opener-at .ensures in let u = untagged-run (l .inv .0) (c .before .before .before .before .next-quote .ensures) in let v = untagged-byte u (c .if2 .left) (sym (o .0 .1) ∙ c .before .before .if1 .left) in (v, bracket-past _ (c .before .before .before .before .next-quote .result .0) _ (omega arith) (v .inside) (o .1 .0))
+loop-again c = let l = c .before .before .before .before .before .before .loop in let o = c .before .before .before .opener-at .ensures in let u = untagged-past (l .inv .0) (c .before .before .before .before .next-tag .ensures) in let v = untagged-byte u (c .if2 .left) (sym (o .0 .1) ∙ c .before .before .if1 .left) in (v, bracket-past _ (c .before .before .before .before .next-tag .result .0) _ (omega arith) (v .inside) (o .1 .0))
 
--- src/search.rt:155:1
 returns-3 : tie.Need-returns-3 Inv-loop μ-loop
 returns-3 c = let l = c .before .loop in opener-missing (l .inv .0) (l .inv .1) (omega arith)
 
@@ -64,7 +55,7 @@ next-opener-spec =
     Inv-loop
     μ-loop
     loop-holds
-    next-quote-requires
+    next-tag-requires
     opener-at-requires
     returns
     returns-2

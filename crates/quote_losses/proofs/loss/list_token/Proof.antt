@@ -17,7 +17,7 @@ use Rattle.attribution_losses.proofs.loss.put_losses.Reads as put-losses-reads
 use Rattle.quote_lines.proofs.search.attribution_size.Reads as attribution-size-reads
 use Rattle.quote_lines.proofs.search.line_of.Reads as line-of-reads
 use Rattle.quote_tags.proofs.tag.tag_at.Reads as tag-at-reads
-use Rattle.text.proofs.scan.next_byte.Reads as next-byte-reads
+use Rattle.quote_tags.proofs.tag.next_tag.Reads as next-tag-reads
 use Rattle.quote_losses.proofs.deep.open_less.Reads as open-less-reads
 use Rattle.quote_losses.proofs.deep.open_more.Reads as open-more-reads
 
@@ -142,15 +142,15 @@ returns-2 c =
 add-t48 : tie.Need-add-t48
 add-t48 c = search needs
 
-next-byte-requires : tie.Need-next-byte-requires
-next-byte-requires c κs = search needs
+next-tag-requires : tie.Need-next-tag-requires
+next-tag-requires c κs = search needs
 
 returns-3 : tie.Need-returns-3
 returns-3 c =
     let a = c .before .before .before .before .before .before .before .before .before .before .before in
     let t = c .before .before .before .before .tag-at .ensures in (
-      lists-text (a .args .source .now) _ _ _ (a .args .from .at .0) _ _ _ _ (a .pre .0 .0) (a .pre .1 .0 .1) _ (t .0) _ (t .1 .0) (c .before .before .if1 .left) _ (t .1 .1) (c .before .if2 .left) (c .next-byte .ensures),
-      (refl, (λ h. depth-text (a .args .source .now) (a .args .from .at .0) _ _ (a .pre .0 .0) h (t .1 .0) _ (c .before .before .if1 .left) (t .1 .1) (c .before .if2 .left) (c .next-byte .ensures), (λ h. refl, a .pre .1 .0 .0 .1))),
+      lists-text (a .args .source .now) _ _ _ (a .args .from .at .0) _ _ _ _ (a .pre .0 .0) (a .pre .1 .0 .1) _ (t .0) _ (t .1 .0) (c .before .before .if1 .left) _ (t .1 .1) (c .before .if2 .left) (c .next-tag .ensures),
+      (refl, (λ h. depth-text (a .args .source .now) (a .args .from .at .0) _ _ (a .pre .0 .0) h (t .1 .0) _ (c .before .before .if1 .left) (t .1 .1) (c .before .if2 .left) (c .next-tag .ensures), (λ h. refl, a .pre .1 .0 .0 .1))),
     )
 
 pub list-token-spec : {M : Type 1} → statement M
@@ -186,5 +186,5 @@ list-token-spec =
     add-t46
     returns-2
     add-t48
-    next-byte-requires
+    next-tag-requires
     returns-3)

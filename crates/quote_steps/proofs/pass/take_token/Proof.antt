@@ -8,7 +8,6 @@ use lib.Seq.{length-take-le}
 use lib.ListN.{take}
 use mathlib.Core.Path.{subst}
 use Rattle.quote_steps.proofs.Passing.{opener-taken, stray-taken, closer-taken, text-taken, appending-keeps}
-use Rattle.quote_steps.proofs.Texts.{run-within}
 use Rattle.quote_tags.proofs.Plain.{bracket-past}
 use Rattle.quote_tags.proofs.Tagging.{behind-within}
 use Rattle.quote_tags.specs.Tags.{NextBracket, openers, closers, openerSize, closerSize}
@@ -20,7 +19,7 @@ use Rattle.quote_steps.proofs.pass.take_token.Lts as lts
 use Rattle.quote_steps.proofs.close.close_innermost.Reads as close-innermost-reads
 use Rattle.quote_tags.proofs.tag.tag_at.Reads as tag-at-reads
 use Rattle.text.proofs.area.copy_within.Reads as copy-within-reads
-use Rattle.text.proofs.scan.next_byte.Reads as next-byte-reads
+use Rattle.quote_tags.proofs.tag.next_tag.Reads as next-tag-reads
 
 slice-reshare-prefix-tag-at : tie.Need-slice-reshare-prefix-tag-at
 slice-reshare-prefix-tag-at c = let p = c .before .before .before .before .before .before .before .before .before .pre in omega (arith, p .0 .0 .1 .0, p .0 .0 .1 .1 .0, p .0 .0 .1 .1 .1, p .0 .1 .0 .0)
@@ -112,20 +111,20 @@ returns-3 : tie.Need-returns-3
 unfolding closerSize
 returns-3 c = let a = c .before .before .before .before .before .before .before .before .before .before .before .before .before .before .before .before .before .before .before .before .before .before .before .before .before .before .before .before .before .before .args in let p = c .before .before .before .before .before .before .before .before .before .before .before .before .before .before .before .before .before .before .before .before .before .before .before .before .before .before .before .before .before .before .pre in let E = c .before .before .before .before .before .before .before .before .before .before .before .before .before .before .before .before .before .before .before .tag-at .ensures in let he = p .0 .0 .1 .0 in let ht = p .0 .0 .1 .1 .1 in let hb : a .end ≤ length (a .work .now) = omega (arith, p .0 .1 .0 .0) in let hn = p .0 .1 .0 .1 .0 in let hp : a .base ≤ a .end = omega (arith, p .0 .0 .1 .1 .0, ht) in let s = take (a .e) (a .work .now) in let l : length s ≡ a .e = length-take-le (a .e) (a .work .now) (omega (arith, he, hp, hb)) in let il : a .from .at .0 ≤ length s = omega (arith, l, p .0 .0 .0) in let n = c .before .before .before .before .before .before .before .before .before .before .before .before .before .before .before .before .if2 .taken in let w = behind-within closers s (a .from .at .0) il (E .1 .1) in let Q = c .before .before .before .before .before .before .before .before .close-innermost .ensures in (((omega (arith, n), (omega (arith, w, l), (Q .0, omega (arith, p .1 .0 .1 .1)))), (Q .1 .0, subst (λ (x : List ℕ). NextBracket x (a .from .at .0 + c .before .before .before .before .before .before .before .before .before .before .before .before .before .before .before .before .before .before .before .tag-at .result .closer) (c .before .before .before .before .before .before .before .before .before .before .before .before .before .before .before .before .before .before .before .tag-at .result .bracket .0)) (sym (Q .1 .0)) (bracket-past s (a .from .at .0) (a .from .at .0 + c .before .before .before .before .before .before .before .before .before .before .before .before .before .before .before .before .before .before .before .tag-at .result .closer) (omega arith) w (E .0)))), closer-taken caption (a .e) (a .base) (a .end) (a .work .now) (a .numbers .now) (a .from .to .0) (a .starts .now) (a .tags .now) (a .from .depth) he hp hb hn ht (a .from .at .0) (p .0 .0 .0) (E .1 .0) (c .before .before .before .before .before .before .before .before .before .before .before .before .before .before .before .before .before .if1 .left) (E .1 .1) n (c .before .before .before .before .before .before .before .before .before .before .before .before .before .before .before .if3 .left) (Q .1 .1))
 
-slice-reshare-prefix-next-byte : tie.Need-slice-reshare-prefix-next-byte
-slice-reshare-prefix-next-byte c = let p = c .before .before .before .before .before .before .before .before .before .before .before .before .before .before .pre in omega (arith, p .0 .0 .1 .0, p .0 .0 .1 .1 .0, p .0 .0 .1 .1 .1, p .0 .1 .0 .0)
+slice-reshare-prefix-next-tag : tie.Need-slice-reshare-prefix-next-tag
+slice-reshare-prefix-next-tag c = let p = c .before .before .before .before .before .before .before .before .before .before .before .before .before .before .pre in omega (arith, p .0 .0 .1 .0, p .0 .0 .1 .1 .0, p .0 .0 .1 .1 .1, p .0 .1 .0 .0)
 
-slice-aggregate-next-byte : tie.Need-slice-aggregate-next-byte
-slice-aggregate-next-byte c = let a = c .before .before .before .before .before .before .before .before .before .before .before .before .before .before .before .args in let p = c .before .before .before .before .before .before .before .before .before .before .before .before .before .before .before .pre in sym (length-take-le (a .e) (a .work .now) (omega (arith, p .0 .0 .1 .0, p .0 .0 .1 .1 .0, p .0 .0 .1 .1 .1, p .0 .1 .0 .0)))
+slice-aggregate-next-tag : tie.Need-slice-aggregate-next-tag
+slice-aggregate-next-tag c = let a = c .before .before .before .before .before .before .before .before .before .before .before .before .before .before .before .args in let p = c .before .before .before .before .before .before .before .before .before .before .before .before .before .before .before .pre in sym (length-take-le (a .e) (a .work .now) (omega (arith, p .0 .0 .1 .0, p .0 .0 .1 .1 .0, p .0 .0 .1 .1 .1, p .0 .1 .0 .0)))
 
 add-t53 : tie.Need-add-t53
 add-t53 c = search needs
 
-next-byte-requires : tie.Need-next-byte-requires
-next-byte-requires c κs = let a = c .before .before .before .before .before .before .before .before .before .before .before .before .before .before .before .args in let p = c .before .before .before .before .before .before .before .before .before .before .before .before .before .before .before .pre in let s = take (a .e) (a .work .now) in let l : length s ≡ a .e = length-take-le (a .e) (a .work .now) (omega (arith, p .0 .0 .1 .0, p .0 .0 .1 .1 .0, p .0 .0 .1 .1 .1, p .0 .1 .0 .0)) in omega (arith, l, p .0 .0 .0)
+next-tag-requires : tie.Need-next-tag-requires
+next-tag-requires c κs = let a = c .before .before .before .before .before .before .before .before .before .before .before .before .before .before .before .args in let p = c .before .before .before .before .before .before .before .before .before .before .before .before .before .before .before .pre in let s = take (a .e) (a .work .now) in let l : length s ≡ a .e = length-take-le (a .e) (a .work .now) (omega (arith, p .0 .0 .1 .0, p .0 .0 .1 .1 .0, p .0 .0 .1 .1 .1, p .0 .1 .0 .0)) in omega (arith, l, p .0 .0 .0)
 
 copy-within-requires : tie.Need-copy-within-requires
-copy-within-requires c κs = let a = c .before .before .before .before .before .before .before .before .before .before .before .before .before .before .before .before .before .before .args in let p = c .before .before .before .before .before .before .before .before .before .before .before .before .before .before .before .before .before .before .pre in let s = take (a .e) (a .work .now) in let l : length s ≡ a .e = length-take-le (a .e) (a .work .now) (omega (arith, p .0 .0 .1 .0, p .0 .0 .1 .1 .0, p .0 .0 .1 .1 .1, p .0 .1 .0 .0)) in let r = run-within s (a .from .at .0 + 1) (omega (arith, l, p .0 .0 .0)) (c .before .before .next-byte .ensures) in ((omega (arith, r .0), omega (arith, r .1, l, p .0 .0 .1 .0, p .0 .0 .1 .1 .0)), (omega (arith, r .1, l, p .0 .0 .1 .0, p .0 .0 .1 .1 .0, p .0 .0 .1 .1 .1), (omega (arith, p .0 .1 .0 .0), p .0 .1 .0 .1 .0)))
+copy-within-requires c κs = let a = c .before .before .before .before .before .before .before .before .before .before .before .before .before .before .before .before .before .before .args in let p = c .before .before .before .before .before .before .before .before .before .before .before .before .before .before .before .before .before .before .pre in let s = take (a .e) (a .work .now) in let l : length s ≡ a .e = length-take-le (a .e) (a .work .now) (omega (arith, p .0 .0 .1 .0, p .0 .0 .1 .1 .0, p .0 .0 .1 .1 .1, p .0 .1 .0 .0)) in let r = c .before .before .next-tag .ensures .0 in ((omega (arith, r .0), omega (arith, r .1, l, p .0 .0 .1 .0, p .0 .0 .1 .1 .0)), (omega (arith, r .1, l, p .0 .0 .1 .0, p .0 .0 .1 .1 .0, p .0 .0 .1 .1 .1), (omega (arith, p .0 .1 .0 .0), p .0 .1 .0 .1 .0)))
 
 same-length-11 : tie.Need-same-length-11
 same-length-11 c = search needs
@@ -134,7 +133,7 @@ same-length-12 : tie.Need-same-length-12
 same-length-12 c = search needs
 
 returns-4 : tie.Need-returns-4
-returns-4 c = let a = c .before .before .before .before .before .before .before .before .before .before .before .before .before .before .before .before .before .before .before .before .before .before .before .args in let p = c .before .before .before .before .before .before .before .before .before .before .before .before .before .before .before .before .before .before .before .before .before .before .before .pre in let E = c .before .before .before .before .before .before .before .before .before .before .before .before .tag-at .ensures in let he = p .0 .0 .1 .0 in let ht = p .0 .0 .1 .1 .1 in let hb : a .end ≤ length (a .work .now) = omega (arith, p .0 .1 .0 .0) in let hn = p .0 .1 .0 .1 .0 in let hp : a .base ≤ a .end = omega (arith, p .0 .0 .1 .1 .0, ht) in let s = take (a .e) (a .work .now) in let l : length s ≡ a .e = length-take-le (a .e) (a .work .now) (omega (arith, p .0 .0 .1 .0, p .0 .0 .1 .1 .0, p .0 .0 .1 .1 .1, p .0 .1 .0 .0)) in let il : a .from .at .0 ≤ length s = omega (arith, l, p .0 .0 .0) in let r = run-within s (a .from .at .0 + 1) (omega (arith, l, p .0 .0 .0)) (c .before .before .before .before .before .before .before .next-byte .ensures) in let Q = c .before .before .before .before .copy-within .ensures in let kept = appending-keeps caption (a .e) (a .base) (a .end) (a .work .now) (a .numbers .now) (a .from .to .0) (a .starts .now) (a .tags .now) (a .from .depth) he hp hb hn ht Q (p .0 .0 .1 .1 .0) (search needs) (search needs) in (((omega (arith, r .0), (omega (arith, r .1, l), (omega (arith, p .0 .0 .1 .1 .0, Q .appends .grows), p .1 .0 .1 .1))), (kept, subst (λ (x : List ℕ). NextBracket x (c .before .before .before .before .before .before .before .next-byte .result .0) (c .before .before .before .before .before .before .before .before .before .before .before .before .tag-at .result .bracket .0)) (sym kept) (bracket-past s (a .from .at .0) (c .before .before .before .before .before .before .before .next-byte .result .0) (omega (arith, r .0)) (r .1) (E .0)))), text-taken caption (a .e) (a .base) (a .end) (a .work .now) (a .numbers .now) (a .from .to .0) (a .starts .now) (a .tags .now) (a .from .depth) he hp hb hn ht (a .from .at .0) (p .0 .0 .0) (E .1 .0) (c .before .before .before .before .before .before .before .before .before .before .if1 .left) (E .1 .1) (c .before .before .before .before .before .before .before .before .before .if2 .left) (c .before .before .before .before .before .before .before .next-byte .ensures) Q)
+returns-4 c = let a = c .before .before .before .before .before .before .before .before .before .before .before .before .before .before .before .before .before .before .before .before .before .before .before .args in let p = c .before .before .before .before .before .before .before .before .before .before .before .before .before .before .before .before .before .before .before .before .before .before .before .pre in let E = c .before .before .before .before .before .before .before .before .before .before .before .before .tag-at .ensures in let he = p .0 .0 .1 .0 in let ht = p .0 .0 .1 .1 .1 in let hb : a .end ≤ length (a .work .now) = omega (arith, p .0 .1 .0 .0) in let hn = p .0 .1 .0 .1 .0 in let hp : a .base ≤ a .end = omega (arith, p .0 .0 .1 .1 .0, ht) in let s = take (a .e) (a .work .now) in let l : length s ≡ a .e = length-take-le (a .e) (a .work .now) (omega (arith, p .0 .0 .1 .0, p .0 .0 .1 .1 .0, p .0 .0 .1 .1 .1, p .0 .1 .0 .0)) in let il : a .from .at .0 ≤ length s = omega (arith, l, p .0 .0 .0) in let r = c .before .before .before .before .before .before .before .next-tag .ensures .0 in let Q = c .before .before .before .before .copy-within .ensures in let kept = appending-keeps caption (a .e) (a .base) (a .end) (a .work .now) (a .numbers .now) (a .from .to .0) (a .starts .now) (a .tags .now) (a .from .depth) he hp hb hn ht Q (p .0 .0 .1 .1 .0) (search needs) (search needs) in (((omega (arith, r .0), (omega (arith, r .1, l), (omega (arith, p .0 .0 .1 .1 .0, Q .appends .grows), p .1 .0 .1 .1))), (kept, subst (λ (x : List ℕ). NextBracket x (c .before .before .before .before .before .before .before .next-tag .result .0) (c .before .before .before .before .before .before .before .before .before .before .before .before .tag-at .result .bracket .0)) (sym kept) (bracket-past s (a .from .at .0) (c .before .before .before .before .before .before .before .next-tag .result .0) (omega (arith, r .0)) (r .1) (E .0)))), text-taken caption (a .e) (a .base) (a .end) (a .work .now) (a .numbers .now) (a .from .to .0) (a .starts .now) (a .tags .now) (a .from .depth) he hp hb hn ht (a .from .at .0) (p .0 .0 .0) (E .1 .0) (c .before .before .before .before .before .before .before .before .before .before .if1 .left) (E .1 .1) (c .before .before .before .before .before .before .before .before .before .if2 .left) (c .before .before .before .before .before .before .before .next-tag .ensures) Q)
 
 pub take-token-spec : {M : Type 1} → statement M
 take-token-spec =
@@ -168,10 +167,10 @@ take-token-spec =
     same-length-9
     same-length-10
     returns-3
-    slice-reshare-prefix-next-byte
-    slice-aggregate-next-byte
+    slice-reshare-prefix-next-tag
+    slice-aggregate-next-tag
     add-t53
-    next-byte-requires
+    next-tag-requires
     copy-within-requires
     same-length-11
     same-length-12
