@@ -1,27 +1,30 @@
 // Reading tags: `[`, letter, `]`, or `[`, `/`, letter, `]`.
 ghost use mathlib.Core.Path.{_≡_};
-ghost use Prim.Native.Nat.{_<_};
+ghost use mathlib.Core.Bool.{cond};
+ghost use Prim.Native.Nat.{_≤_, _<_};
 ghost use lib.ListN.{length, drop};
 ghost use Rattle.mark_tags.specs.Marks.{kindOf, tagOfBytes, tagAt};
 ghost use Rattle.mark_tags.specs.Flat.{letterNumber, tagNumber};
 
-// The kind that a letter names, as a number; 4 where there is none.
+fn one_if(yes: bool) -> u32
+    ensures { λ r. ⌜ (r ≡ cond yes 1 0) × (r ≤ 1) ⌝ }
+{
+    if yes {
+        return 1;
+    }
+    0
+}
+
+// The kind that a letter names, as a number; 4 where there is none. A sum: branches on the letter would be mispredicted.
 fn kind_of(a: u8) -> u32
     ensures { λ r. ⌜ r ≡ letterNumber (kindOf a) ⌝ }
 {
-    if (a == b'b') | (a == b'B') {
-        return 0;
-    }
-    if (a == b'i') | (a == b'I') {
-        return 1;
-    }
-    if (a == b'u') | (a == b'U') {
-        return 2;
-    }
-    if (a == b's') | (a == b'S') {
-        return 3;
-    }
-    4
+    let bold = (a == b'b') | (a == b'B');
+    let italic = (a == b'i') | (a == b'I');
+    let underline = (a == b'u') | (a == b'U');
+    let strike = (a == b's') | (a == b'S');
+    let none = !(bold | italic | underline | strike);
+    one_if(italic) + 2 * one_if(underline) + 3 * one_if(strike) + 4 * one_if(none)
 }
 
 fn tag_of(a: u8, b: u8, c: u8, d: u8) -> u32
