@@ -1,6 +1,6 @@
 -- Laws of a mark's delimiters around its body. Assumes nothing.
 use mathlib.Core.Path.{_≡_, refl, sym, ap, _∙_, subst}
-use mathlib.Core.Bool.{Bool, true, false, not, cond, _&&_}
+use mathlib.Core.Bool.{Bool, true, false, not, _&&_}
 use mathlib.Core.List.{List, [], _∷_, _++_, append-assoc, append-nil}
 use Prim.Native.Nat.{ℕ, zero, suc, _+_, _-_, _≤_, _<_}
 use native.Mathlib.Nat.{le-trans}
@@ -100,7 +100,3 @@ closes-step {v} {v₁} {v₂} {p} {at} {at₁} {at₂} br d a b o s body n h =
 
 pub closes-keeps : {v v₁ v₂ : List Cell} {p at at₁ at₂ : ℕ} (br : Bool) (d : ℕ) → Becomes (escapeLast (is "{") true) v (p + 1) at v₁ at₁ → Becomes (behindBrace br d) v₁ p at₁ v₂ at₂ → take p v₂ ≡ take p v
 closes-keeps {v} {v₁} {v₂} {p} br d a b = b .keeps ∙ sym (take-take p (p + 1) v₁ (omega arith)) ∙ ap (take p) (a .keeps) ∙ take-take p (p + 1) v (omega arith)
-
-pub one-small : (b : Bool) (by : ℕ) → by ≡ cond b 1 0 → by ≤ 1
-one-small true by e = omega arith
-one-small false by e = omega arith

@@ -2,10 +2,11 @@
 use crate::class::is_braced;
 use crate::piece::insert;
 use crate::piece::is_even;
+use mark_tags::tags::one_if;
 use text::TextAt;
 use text::write::put_sign;
 ghost use mathlib.Core.Path.{_≡_};
-ghost use mathlib.Core.Bool.{true, cond};
+ghost use mathlib.Core.Bool.{true};
 ghost use Prim.Native.Nat.{ℕ, _≤_, _<_};
 ghost use mathlib.Core.List.{_∷_, _++_};
 ghost use lib.ListN.{length, take, drop, getD};
@@ -103,15 +104,6 @@ fn put_span(spans: &mut [u32], c: usize, e: usize, start: usize, end: usize, by:
         spans[c] = start as u32;
         spans[c + 1] = end as u32;
     }
-}
-
-fn one_if(yes: bool) -> u32
-    ensures { λ r. ⌜ r ≡ cond yes 1 0 ⌝ }
-{
-    if yes {
-        return 1;
-    }
-    0
 }
 
 // Where a mark ends, and whether it took the braced form.

@@ -1,46 +1,50 @@
 // Reading tags: `[`, letter, `]`, or `[`, `/`, letter, `]`.
 ghost use mathlib.Core.Path.{_≡_};
-ghost use Prim.Native.Nat.{_<_};
+ghost use mathlib.Core.Bool.{cond};
+ghost use Prim.Native.Nat.{_≤_, _<_};
 ghost use lib.ListN.{length, drop};
 ghost use Rattle.mark_tags.specs.Marks.{kindOf, tagOfBytes, tagAt};
 ghost use Rattle.mark_tags.specs.Flat.{letterNumber, tagNumber};
 
-// The kind that a letter names, as a number; 4 where there is none.
+pub fn one_if(yes: bool) -> u32
+    ensures { λ r. ⌜ (r ≡ cond yes 1 0) × (r ≤ 1) ⌝ }
+{
+    if yes {
+        return 1;
+    }
+    0
+}
+
+// The kind that a letter names, as a number; 4 where there is none. A sum: branches on the letter would be mispredicted.
 fn kind_of(a: u8) -> u32
     ensures { λ r. ⌜ r ≡ letterNumber (kindOf a) ⌝ }
 {
-    if (a == b'b') | (a == b'B') {
-        return 0;
-    }
-    if (a == b'i') | (a == b'I') {
-        return 1;
-    }
-    if (a == b'u') | (a == b'U') {
-        return 2;
-    }
-    if (a == b's') | (a == b'S') {
-        return 3;
-    }
-    4
+    let bold = (a == b'b') | (a == b'B');
+    let italic = (a == b'i') | (a == b'I');
+    let underline = (a == b'u') | (a == b'U');
+    let strike = (a == b's') | (a == b'S');
+    let none = !(bold | italic | underline | strike);
+    one_if(italic) + 2 * one_if(underline) + 3 * one_if(strike) + 4 * one_if(none)
 }
 
+fn either(yes: bool, a: u8, b: u8) -> u8
+    ensures { λ r. ⌜ r ≡ cond yes a b ⌝ }
+{
+    if yes {
+        return a;
+    }
+    b
+}
+
+// The tag that starts with these four bytes, as a number; 0 where there is none. One branch for all tags, likewise.
 fn tag_of(a: u8, b: u8, c: u8, d: u8) -> u32
     ensures { λ r. ⌜ r ≡ tagNumber (tagOfBytes a b c d) ⌝ }
 {
-    if a == b'[' {
-        if c == b']' {
-            let k = kind_of(b);
-            if k < 4 {
-                return 8 + k;
-            }
-            return 0;
-        }
-        if (b == b'/') & (d == b']') {
-            let k = kind_of(c);
-            if k < 4 {
-                return 12 + k;
-            }
-        }
+    let opens = c == b']';
+    let whole = opens | ((b == b'/') & (d == b']'));
+    let k = kind_of(either(opens, b, c));
+    if (a == b'[') & whole & (k < 4) {
+        return 12 + k - 4 * one_if(opens);
     }
     0
 }

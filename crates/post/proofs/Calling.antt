@@ -9,7 +9,7 @@ use lib.ListN.{length, take, replicate, length-map, length-append}
 use lib.Seq.{length-take-le, take-at, take-append-le}
 use lib.Dec.{ltb}
 use borrow.Author.Tests.{lt-ltb, le-ltb}
-use Rattle.text.specs.Cells.{Cell, cells, cellsOf, bytes, origins}
+use Rattle.text.specs.Cells.{Cell, cells, cellsOf, bytes, origins, part}
 use Rattle.text.specs.Writes.{Holds, cleared, padded, LaidOut}
 use Rattle.text.specs.Origins.{CopiedByOrigin}
 use Rattle.lending.specs.Lent.{checked}
@@ -92,8 +92,8 @@ module _ (x : List Cell) (m a w r : ℕ) (bs ns : List ℕ) (p : Fills m (Quotes
   unfolding quoting
   quoting-done h = rw (le-ltb m (Quotes.quotesNeed caption x) (quotes-in h))
 
-  pub quoted-front : r ≤ m → take r (cells bs ns) ≡ Quotes.quotes caption x
-  quoted-front h = p .fits (quotes-in h) .1
+  pub quoted-there : r ≤ m → part m (m + r) (cells bs ns) ≡ Quotes.quotes caption x
+  quoted-there h = p .fits (quotes-in h) .1
 
 -- ---- losses
 

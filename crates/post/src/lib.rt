@@ -23,7 +23,7 @@ ghost use mathlib.Core.Bool.{false};
 ghost use mathlib.Core.List.{[]};
 ghost use Prim.Native.Nat.{_+_, _*_, _≤_};
 ghost use lib.ListN.{length, take};
-ghost use Rattle.text.specs.Cells.{cells};
+ghost use Rattle.text.specs.Cells.{cells, part};
 ghost use Rattle.attribution_parts.specs.Attribution.{caption};
 ghost use Rattle.quote_tags.specs.Masks.{visible};
 ghost use Rattle.quote_lines.specs.Lines.{tags};
@@ -50,7 +50,7 @@ fn refuse(r: Refusal, out: &mut [u8], origins: &mut [u32], loss_bytes: &mut [u8]
     Posted::Refused(r)
 }
 
-// Lists of the n cells at the front of the work pair; the losses are listed.
+// Lists of the n cells of the work pair from place m on, m being the length of out; the losses are listed.
 fn write_lists(
     n: usize,
     losses: Counts,
@@ -60,8 +60,8 @@ fn write_lists(
     origins: &mut [u32],
     loss_bytes: &mut [u8],
 ) -> Posted
-    requires { ⌜ (((n ≤ length (now out)) × ((length (now out) ≤ 16777216) × (length (now out) ≤ length (now origins)))) × ((2 * length (now out) ≤ length (now work)) × ((3 * length (now out) ≤ length (now numbers)) × (length (now numbers) ≤ 4294967295)))) × (losses .bytes ≤ length (now «loss_bytes»)) ⌝ }
-    ensures { λ r. ⌜ Ends (lists (take n (cells (now (work .entry)) (now (numbers .entry))))) (take (losses .bytes) (now («loss_bytes» .entry))) (length (now (out .entry))) (length (now (origins .entry))) (length (now («loss_bytes» .entry))) (listing (take n (cells (now (work .entry)) (now (numbers .entry)))) (length (now (out .entry))) (losses .losses) (losses .bytes)) r (now (out .exit)) (now (origins .exit)) (now («loss_bytes» .exit)) ⌝ }
+    requires { ⌜ (((n ≤ length (now out)) × ((length (now out) ≤ 16777216) × (length (now out) ≤ length (now origins)))) × ((3 * length (now out) ≤ length (now work)) × ((3 * length (now out) ≤ length (now numbers)) × (length (now numbers) ≤ 4294967295)))) × (losses .bytes ≤ length (now «loss_bytes»)) ⌝ }
+    ensures { λ r. ⌜ Ends (lists (part (length (now (out .entry))) (length (now (out .entry)) + n) (cells (now (work .entry)) (now (numbers .entry))))) (take (losses .bytes) (now («loss_bytes» .entry))) (length (now (out .entry))) (length (now (origins .entry))) (length (now («loss_bytes» .entry))) (listing (part (length (now (out .entry))) (length (now (out .entry)) + n) (cells (now (work .entry)) (now (numbers .entry)))) (length (now (out .entry))) (losses .losses) (losses .bytes)) r (now (out .exit)) (now (origins .exit)) (now («loss_bytes» .exit)) ⌝ }
 {
     let r = list_text(n, work, numbers, out, origins);
     if FULL < r {

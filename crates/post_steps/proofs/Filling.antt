@@ -66,38 +66,34 @@ moved-cells bs ns bs' ns' a n h k e g =
 
 -- ---- quotes
 
-module _ (m r need : ℕ) (x : List Cell) (v : List Cell) (p : Leaves m (m + m) (take (m + m) v) r x need) (small : length x ≤ need) where
-  pub quotes-up : r ≤ m + m → m ≤ r
-  quotes-up near =
-      elim (decLe need m) [ yes h ↦ (let e = p .fits (omega arith) .0 in omega arith) | no h ↦ absurd (let e = p .full (omega arith) in omega arith) ]
+module _ (m r need : ℕ) (x : List Cell) (bs ns : List ℕ) (p : Leaves m (m + m) (take (m + m) (cells bs ns)) r x need) (small : length x ≤ need) where
+  pub quotes-up : m ≤ r
+  quotes-up = elim (decLe need m) [ yes h ↦ (let e = p .fits (omega arith) .0 in omega arith) | no h ↦ (let e = p .full (omega arith) in omega arith) ]
 
-  pub quotes-full : (bs ns : List ℕ) → m + m < r → Fills m need x r bs ns
-  quotes-full bs ns far = record { fits = λ h. absurd (let e = p .fits (omega arith) .0 in omega arith); full = λ h. omega arith }
-
-  pub quotes-done : (bs ns : List ℕ) → r ≤ m + m → take (r - m) (cells bs ns) ≡ part m (m + (r - m)) v → Fills m need x (r - m) bs ns
-  quotes-done bs ns near e =
+  pub quotes-fill : Fills m need x (r - m) bs ns
+  quotes-fill =
       record {
         fits =
             λ h.
             let f = p .fits (omega arith) in
+            let up = quotes-up in
             let l : r - m ≡ length x = (let z = f .0 in omega arith) in
-            let up = quotes-up near in
             let q : m + (r - m) ≡ r = omega arith in
-            (l, e ∙ ap (λ (k : ℕ). part m k v) q ∙ sym (part-within m r (m + m) v near) ∙ f .1);
-        full = λ h. absurd (let w = p .full (omega arith) in omega arith);
+            (l, ap (λ (k : ℕ). part m k (cells bs ns)) q ∙ sym (part-within m r (m + m) (cells bs ns) (omega arith)) ∙ f .1);
+        full = λ h. let e = p .full (omega arith) in omega arith;
       }
 
 -- ---- lists
 
-module _ (m k r : ℕ) (x : List Cell) (bs ns : List ℕ) (p : Passed m x m (m + m) bs ns r) where
-  pub lists-up : r ≤ m + m → m ≤ r
+module _ (m k base r : ℕ) (x : List Cell) (bs ns : List ℕ) (p : Passed m x base (base + m) bs ns r) where
+  pub lists-up : r ≤ base + m → base ≤ r
   lists-up near =
       elim (decLe (listsNeed x) m) [ yes h ↦ (let e = p .done h .0 in omega arith) | no h ↦ absurd (let e = p .full (omega arith) in omega arith) ]
 
-  pub lists-full : {out plain : List ℕ} → m + m < r → Lays m k (listsNeed x) (lists x) r out plain
+  pub lists-full : {out plain : List ℕ} → base + m < r → Lays m k (listsNeed x) (lists x) r out plain
   lists-full far = record { fits = λ h. absurd (let e = p .done h .0 in let f = lists-fits x in omega arith); full = λ h. omega arith }
 
-  pub lists-done : {out plain : List ℕ} → r ≤ m + m → LaidOut (part m r (cells bs ns)) m k out plain → Lays m k (listsNeed x) (lists x) (r - m) out plain
+  pub lists-done : {out plain : List ℕ} → r ≤ base + m → LaidOut (part base r (cells bs ns)) m k out plain → Lays m k (listsNeed x) (lists x) (r - base) out plain
   lists-done near laid =
       record {
         fits = λ h. (let e = p .done h .0 in omega arith, rw (p .done h .1) at laid);

@@ -1,5 +1,4 @@
 // The second pass of the chain: quotes.
-use crate::front::move_front;
 use quote_steps::pass::quote_pass;
 use text::PostAt;
 use text::TextAt;
@@ -13,7 +12,8 @@ ghost use Rattle.attribution_parts.specs.Attribution.{caption};
 ghost use Rattle.quote_blocks.specs.Quotes.{tooDeep, quotes, quotesNeed};
 ghost use Rattle.post_steps.specs.Fills.{Fills};
 
-// Quotes of the n cells at the front of out and origins, at the front of the work pair; out and origins are free after it.
+// Quotes of the n cells at the front of out and origins, in the work pair from place m on, m being the length of out; out and origins are free
+// after it.
 pub fn quote_text(
     n: usize,
     work: &mut [u8],
@@ -28,10 +28,5 @@ pub fn quote_text(
     let end = m + m;
     copy(out, origins, PostAt(0), PostAt(n), work, numbers, TextAt(0));
     let z = quote_pass(work, numbers, n, m, end, out, origins);
-    let r = z.0;
-    if end < r {
-        return r;
-    }
-    move_front(work, numbers, m, r - m);
-    r - m
+    z.0 - m
 }

@@ -4,7 +4,7 @@ use mathlib.Core.Path.{_≡_, refl, sym, ap, _∙_}
 use Prim.Native.Nat.{ℕ, suc, _+_, _-_, _*_, _≤_, _<_}
 use mathlib.Core.List.{List, [], _∷_, _++_}
 use lib.ListN.{length, getD}
-use Rattle.post.proofs.Calling.{ends-refused, ends-as, quoting-full, quoting-done, quoted-front}
+use Rattle.post.proofs.Calling.{ends-refused, ends-as, quoting-full, quoting-done, quoted-there}
 use Rattle.post.proofs.write_quotes.Statement.{statement}
 use Rattle.post.proofs.write_quotes.Tie as tie
 use Rattle.post.proofs.write_quotes.Reads as reads
@@ -71,8 +71,8 @@ returns-2 c =
     let lo = p .kept .1 .1 .1 .0 in
     let lg = p .kept .1 .1 .1 .1 .0 in
     let near = c .before .before .before .before .before .before .before .before .before .before .before .before .before .before .before .before .if1 .left in
-    let e = quoted-front _ _ 0 0 _ _ _ (p .ensures) (omega (arith, lo, near)) in
-    ends-as (rw (e, lo, lg) at (c .before .before .before .before .before .before .before .before .before .before .write-lists .ensures)) (quoting-done _ _ _ _ _ _ _ (p .ensures) (omega (arith, lo, near)))
+    let e = quoted-there _ _ 0 0 _ _ _ (p .ensures) (omega (arith, lo, near)) in
+    ends-as (rw (lo, lg, e) at (c .before .before .before .before .before .before .before .before .before .before .write-lists .ensures)) (quoting-done _ _ _ _ _ _ _ (p .ensures) (omega (arith, lo, near)))
 
 pub write-quotes-spec : {M : Type 1} → statement M
 write-quotes-spec =

@@ -5,7 +5,7 @@ use Prim.Native.Nat.{ℕ, suc, _+_, _-_, _≤_, _<_}
 use mathlib.Core.List.{List, [], _∷_, _++_}
 use lib.ListN.{length, getD}
 use lib.ListN.{take, drop}
-use Rattle.mark_pieces.proofs.Wrapping.{closes-step, closes-keeps, one-small}
+use Rattle.mark_pieces.proofs.Wrapping.{closes-step, closes-keeps}
 use Rattle.mark_pieces.specs.Spans.{raised}
 use Rattle.mark_pieces.proofs.mark.finish_mark.Statement.{statement}
 use Rattle.mark_pieces.proofs.mark.finish_mark.Tie as tie
@@ -13,7 +13,7 @@ use Rattle.mark_pieces.proofs.mark.finish_mark.Reads as reads
 use Rattle.mark_pieces.proofs.mark.finish_mark.Lts as lts
 use Rattle.mark_pieces.proofs.mark.close_mark.Reads as close-mark-reads
 use Rattle.mark_pieces.proofs.mark.escape_brace.Reads as escape-brace-reads
-use Rattle.mark_pieces.proofs.mark.one_if.Reads as one-if-reads
+use Rattle.mark_tags.proofs.tags.one_if.Reads as one-if-reads
 use Rattle.mark_pieces.proofs.mark.put_span.Reads as put-span-reads
 use Rattle.mark_pieces.proofs.mark.takes_braces.Reads as takes-braces-reads
 
@@ -38,10 +38,9 @@ one-if-requires c κs = search needs
 put-span-requires : tie.Need-put-span-requires
 put-span-requires c κs =
     let p = c .before .before .before .before .before .before .before .before .before .before .before .before .before .before .before .before .before .before .before .before .before .before .pre in
-    let b = one-small (c .before .before .before .before .before .before .before .before .before .before .before .before .before .before .before .before .before .takes-braces .result) (c .one-if .result) (c .one-if .ensures) in
     let k₁ = c .before .before .before .before .before .before .before .before .before .before .before .before .before .before .escape-brace .kept in
     let k₂ = c .before .before .before .before .before .before .before .close-mark .kept in
-    ((omega arith, (omega arith, omega arith)), (b, p .1 .1 .1))
+    ((omega arith, (omega arith, omega arith)), (c .one-if .ensures .1, p .1 .1 .1))
 
 same-length : tie.Need-same-length
 same-length c = search needs
@@ -62,7 +61,7 @@ returns c =
       step = closes-step (c .before .before .before .before .before .before .before .before .before .before .before .before .before .before .before .before .before .before .before .before .takes-braces .result) (a .d) (c .before .before .before .before .before .before .before .before .before .before .before .before .before .before .before .before .before .escape-brace .ensures) (c .before .before .before .before .before .before .before .before .before .before .close-mark .ensures);
       keeps = closes-keeps (c .before .before .before .before .before .before .before .before .before .before .before .before .before .before .before .before .before .before .before .before .takes-braces .result) (a .d) (c .before .before .before .before .before .before .before .before .before .before .before .before .before .before .before .before .before .escape-brace .ensures) (c .before .before .before .before .before .before .before .before .before .before .close-mark .ensures);
       grows = omega arith;
-      spans = λ h r. c .before .before .put-span .ensures r ∙ ap (λ (by : ℕ). take (a .c) (a .spans .now) ++ (a .p ∷ c .before .before .before .before .before .before .before .before .before .before .close-mark .result .0 ∷ raised by (drop (a .c + 2) (take (a .e) (a .spans .now))))) (c .before .before .before .one-if .ensures);
+      spans = λ h r. c .before .before .put-span .ensures r ∙ ap (λ (by : ℕ). take (a .c) (a .spans .now) ++ (a .p ∷ c .before .before .before .before .before .before .before .before .before .before .close-mark .result .0 ∷ raised by (drop (a .c + 2) (take (a .e) (a .spans .now))))) (c .before .before .before .one-if .ensures .0);
     }
 
 same-length-4 : tie.Need-same-length-4

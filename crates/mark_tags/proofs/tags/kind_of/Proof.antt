@@ -4,31 +4,60 @@ use mathlib.Core.Path.{_≡_, refl, sym, ap, _∙_}
 use Prim.Native.Nat.{ℕ, suc, _+_, _-_, _≤_, _<_}
 use mathlib.Core.List.{List, [], _∷_, _++_}
 use lib.ListN.{length, getD}
-use Rattle.mark_tags.specs.Marks.{kindOf}
+use Rattle.mark_tags.proofs.TagNumbers.{letter-sum}
 use Rattle.mark_tags.proofs.tags.kind_of.Statement.{statement}
 use Rattle.mark_tags.proofs.tags.kind_of.Tie as tie
 use Rattle.mark_tags.proofs.tags.kind_of.Reads as reads
 use Rattle.mark_tags.proofs.tags.kind_of.Lts as lts
+use Rattle.mark_tags.proofs.tags.one_if.Reads as one-if-reads
+
+one-if-requires : tie.Need-one-if-requires
+one-if-requires c κs = search needs
+
+one-if-requires-2 : tie.Need-one-if-requires-2
+one-if-requires-2 c κs = search needs
+
+mul-result : tie.Need-mul-result
+mul-result c = search needs
+
+add-result : tie.Need-add-result
+add-result c = search needs
+
+one-if-requires-3 : tie.Need-one-if-requires-3
+one-if-requires-3 c κs = search needs
+
+mul-result-2 : tie.Need-mul-result-2
+mul-result-2 c = search needs
+
+add-result-2 : tie.Need-add-result-2
+add-result-2 c = search needs
+
+one-if-requires-4 : tie.Need-one-if-requires-4
+one-if-requires-4 c κs = search needs
+
+mul-result-3 : tie.Need-mul-result-3
+mul-result-3 c = search needs
+
+add-result-3 : tie.Need-add-result-3
+add-result-3 c = search needs
 
 returns : tie.Need-returns
-unfolding kindOf
-returns c = rw (c .if1 .taken)
-
-returns-2 : tie.Need-returns-2
-unfolding kindOf
-returns-2 c = rw (c .before .if1 .left, c .if2 .taken)
-
-returns-3 : tie.Need-returns-3
-unfolding kindOf
-returns-3 c = rw (c .before .before .if1 .left, c .before .if2 .left, c .if3 .taken)
-
-returns-4 : tie.Need-returns-4
-unfolding kindOf
-returns-4 c = rw (c .before .before .before .if1 .left, c .before .before .if2 .left, c .before .if3 .left, c .if4 .taken)
-
-returns-5 : tie.Need-returns-5
-unfolding kindOf
-returns-5 c = rw (c .before .before .before .if1 .left, c .before .before .if2 .left, c .before .if3 .left, c .if4 .left)
+returns c =
+    rw (c .before .before .before .one-if .ensures .0, c .before .before .one-if2 .ensures .0, c .before .one-if3 .ensures .0, c .one-if4 .ensures .0)
+    (letter-sum (c .before .before .before .before .args .a))
 
 pub kind-of-spec : {M : Type 1} → statement M
-kind-of-spec = tie.close (tie.spec returns returns-2 returns-3 returns-4 returns-5)
+kind-of-spec =
+    tie.close
+    (tie.spec
+    one-if-requires
+    one-if-requires-2
+    mul-result
+    add-result
+    one-if-requires-3
+    mul-result-2
+    add-result-2
+    one-if-requires-4
+    mul-result-3
+    add-result-3
+    returns)

@@ -4,98 +4,84 @@ use mathlib.Core.Path.{_≡_, refl, sym, ap, _∙_}
 use Prim.Native.Nat.{ℕ, suc, _+_, _-_, _≤_, _<_}
 use mathlib.Core.List.{List, [], _∷_, _++_}
 use lib.ListN.{length, getD}
-use Rattle.post_steps.proofs.Filling.{lists-up, lists-full, lists-done}
-use borrow.Author.Tests.{le-ltb}
 use Rattle.text.specs.Cells.{part}
 use Rattle.post_steps.proofs.list.list_text.Statement.{statement}
 use Rattle.post_steps.proofs.list.list_text.Tie as tie
 use Rattle.post_steps.proofs.list.list_text.Reads as reads
 use Rattle.post_steps.proofs.list.list_text.Lts as lts
-use Rattle.list_steps.proofs.pass.list_pass.Reads as list-pass-reads
-use Rattle.text.proofs.write.lay_part.Reads as lay-part-reads
+use Rattle.post_steps.proofs.front.move_front.Reads as move-front-reads
+use Rattle.post_steps.proofs.list.list_from.Reads as list-from-reads
 
--- src/list.rt:23:15
-add-end : tie.Need-add-end
-add-end c = search needs
+mul-if1 : tie.Need-mul-if1
+mul-if1 c = search needs
 
--- src/list.rt:24:9
-list-pass-requires : tie.Need-list-pass-requires
-list-pass-requires c κs = search needs
+sub-if1 : tie.Need-sub-if1
+sub-if1 c = search needs
 
--- src/list.rt:26:9
+add-list-from : tie.Need-add-list-from
+add-list-from c = search needs
+
+mul-list-from : tie.Need-mul-list-from
+mul-list-from c = search needs
+
+list-from-requires : tie.Need-list-from-requires
+list-from-requires c κs = search needs
+
 same-length : tie.Need-same-length
 same-length c = search needs
 
--- src/list.rt:26:9
 same-length-2 : tie.Need-same-length-2
 same-length-2 c = search needs
 
--- src/list.rt:26:9
 same-length-3 : tie.Need-same-length-3
 same-length-3 c = search needs
 
--- src/list.rt:26:9
 same-length-4 : tie.Need-same-length-4
 same-length-4 c = search needs
 
--- src/list.rt:26:9
 returns : tie.Need-returns
-unfolding part
-returns c = let p = c .before .before .before .before .before .before .before .before .before .list-pass in (p .ensures .0, λ h. lists-full _ _ _ _ _ _ (p .ensures .1 h) (c .if1 .taken))
+returns c = search needs
 
--- src/list.rt:28:5
-lay-part-requires : tie.Need-lay-part-requires
-lay-part-requires c κs = let pre = c .before .before .before .before .before .before .before .before .before .before .before .before .before .before .before .before .before .before .before .before .before .before .pre in
-    let p = c .before .before .before .before .before .before .before .before .before .before .before .before .before .list-pass in
-    let lw = p .kept .1 .1 .1 .1 .0 in
-    let ln = p .kept .1 .1 .1 .1 .1 .0 in
-    let lo = p .kept .1 .1 .1 .1 .1 .1 .0 in
-    let lg = p .kept .1 .1 .1 .1 .1 .1 .1 .0 in
-    let up = lists-up _ 0 _ _ _ _ (p .ensures .1 (omega (arith, c .before .before .before .before .if1 .left, pre .0 .1 .0))) (c .before .before .before .before .if1 .left) in
-    search needs
+move-front-requires : tie.Need-move-front-requires
+move-front-requires c κs = search needs
 
--- src/list.rt:29:5
-sub-result : tie.Need-sub-result
-sub-result c = let up = lists-up _ 0 _ _ _ _ (c .before .before .before .before .before .before .before .before .before .before .before .before .before .before .before .before .before .before .list-pass .ensures .1 (omega (arith, c .before .before .before .before .before .before .before .before .before .if1 .left, c .before .before .before .before .before .before .before .before .before .before .before .before .before .before .before .before .before .before .before .before .before .before .before .before .before .before .before .pre .0 .1 .0))) (c .before .before .before .before .before .before .before .before .before .if1 .left) in omega arith
+list-from-requires-2 : tie.Need-list-from-requires-2
+list-from-requires-2 c κs = search needs
 
--- src/list.rt:12:1
 same-length-5 : tie.Need-same-length-5
 same-length-5 c = search needs
 
--- src/list.rt:12:1
 same-length-6 : tie.Need-same-length-6
 same-length-6 c = search needs
 
--- src/list.rt:12:1
 same-length-7 : tie.Need-same-length-7
 same-length-7 c = search needs
 
--- src/list.rt:12:1
 same-length-8 : tie.Need-same-length-8
 same-length-8 c = search needs
 
--- src/list.rt:12:1
 returns-2 : tie.Need-returns-2
 unfolding part
-returns-2 c = let p = c .before .before .before .before .before .before .before .before .before .before .before .before .before .before .before .before .before .before .list-pass in
-    let fit = c .before .before .before .before .before .before .before .before .before .if1 .left in
-    let near : p .result ≤ 18446744073709551614 = omega (arith, fit, c .before .before .before .before .before .before .before .before .before .before .before .before .before .before .before .before .before .before .before .before .before .before .before .before .before .before .before .pre .0 .1 .0) in
-    let less : (k : ℕ) → p .result - k ≤ 18446744073709551614 = λ k. omega (arith, near) in
-    (p .ensures .0 ∙ le-ltb 18446744073709551614 _ near ∙ sym (le-ltb 18446744073709551614 _ (less _)), λ h. lists-done _ _ _ _ _ _ (p .ensures .1 near) fit (rw (p .kept .1 .1 .1 .1 .1 .1 .0, p .kept .1 .1 .1 .1 .1 .1 .1 .0) at (c .before .before .before .before .lay-part .ensures)))
+returns-2 c =
+    let f = c .before .before .before .before .before .before .before .before .before .before .before .before .before .before .before .before .before .move-front in
+    rw (f .ensures) at (c .before .before .before .before .before .before .before .before .list-from2 .ensures)
 
 pub list-text-spec : {M : Type 1} → statement M
 list-text-spec =
     tie.close
     (tie.spec
-    add-end
-    list-pass-requires
+    mul-if1
+    sub-if1
+    add-list-from
+    mul-list-from
+    list-from-requires
     same-length
     same-length-2
     same-length-3
     same-length-4
     returns
-    lay-part-requires
-    sub-result
+    move-front-requires
+    list-from-requires-2
     same-length-5
     same-length-6
     same-length-7
