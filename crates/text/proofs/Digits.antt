@@ -1,64 +1,81 @@
 -- Laws of bytes as binary digits, the first the lowest. Assumes nothing.
-use mathlib.Core.Path.{_≡_, refl, sym, ap, ap₂, _∙_}
+use mathlib.Core.Path.{_≡_, refl, sym, ap, _∙_}
 use mathlib.Core.Bool.{Bool, true, false, cond}
 use mathlib.Core.List.{List, [], _∷_}
-use Prim.Native.Nat.{ℕ, zero, suc, _+_, _-_, _*_, _/_, _%_, _^_, _≤_, _<_, zero-le, suc-le-suc}
-use native.Mathlib.Nat.{not-suc-le-zero, le-of-suc-le-suc, pow-suc}
+use Prim.Native.Nat.{ℕ, zero, suc, _+_, _-_, _*_, _/_, _%_, _^_, _≤_, _<_}
+use native.Mathlib.Nat.{not-suc-le-zero, le-of-suc-le-suc, pow-suc, mul-zero, mul-comm, mul-assoc}
 use native.Mathlib.Omega.{arith}
 use lib.Count.{trailingZeros, under}
 use lib.ListN.{length, drop, getD}
 use lib.Pow.{pow-mono}
 use lib.Seq.{drop-cons}
-use Rattle.text.specs.Ascii.{toFirst}
+use Rattle.text.specs.Ascii.{toFirst, binary}
 
--- the digits n of the bytes from i + k up to i + 16, set where p holds
-pub record Digits (p : ℕ → Bool) (s : List ℕ) (i k n : ℕ) : Type 0 where
-  pub small : n < 2 ^ (16 - k)
-  pub first : toFirst p (drop (i + k) s) < 16 - k → trailingZeros (32 - k) n ≡ toFirst p (drop (i + k) s)
+module _ (p : ℕ → Bool) where
+  pub binary-small : (n : ℕ) (s : List ℕ) → binary p n s < 2 ^ n
+  unfolding binary
+  binary-small zero s = omega arith
+  binary-small (suc n) [] = let q = pow-suc 2 n in let h = binary-small n [] in omega (arith, q, h)
+  binary-small (suc n) (b ∷ s) = let q = pow-suc 2 n in let h = binary-small n s in by (p b) q h
+    where
+      by : (t : Bool) → 2 ^ suc n ≡ 2 ^ n * 2 → binary p n s < 2 ^ n → 2 * binary p n s + cond t 1 0 < 2 ^ suc n
+      by true q h = omega (arith, q, h)
+      by false q h = omega (arith, q, h)
 
-pub no-digits : (p : ℕ → Bool) (s : List ℕ) (i : ℕ) → Digits p s i 16 0
-no-digits p s i = record { small = suc-le-suc zero-le; first = λ h. absurd (not-suc-le-zero h) }
+  binary-none : (n : ℕ) → binary p n [] ≡ 0
+  unfolding binary
+  binary-none zero = refl
+  binary-none (suc n) = refl
 
-pub digits-small : (p : ℕ → Bool) (s : List ℕ) (i k n : ℕ) → Digits p s i k n → n < 65536
-digits-small p s i k n h = let m : 2 ^ (16 - k) ≤ 2 ^ 16 = pow-mono {i = 16 - k} {j = 16} (omega arith) in omega (arith, m, h .small)
+  pub binary-start : (s : List ℕ) → 0 ≡ binary p 0 s
+  unfolding binary
+  binary-start s = refl
 
--- all 16
-pub all-digits : (p : ℕ → Bool) (s : List ℕ) (i k n : ℕ) → k ≡ 0 → Digits p s i k n → toFirst p (drop i s) < 16 → trailingZeros 32 n ≡ toFirst p (drop i s)
-all-digits p s i k n z h less =
-    let e : i + k ≡ i = omega arith in
-    let f : toFirst p (drop (i + k) s) ≡ toFirst p (drop i s) = ap (λ (j : ℕ). toFirst p (drop j s)) e in
-    let t : 32 ≡ 32 - k = omega arith in
-    ap (λ (j : ℕ). trailingZeros j n) t ∙ h .first (omega (arith, f, less, z)) ∙ f
+  pub binary-byte : (n : ℕ) (s : List ℕ) → n ≤ 8 → binary p n s < 256
+  binary-byte n s h = let m : 2 ^ n ≤ 2 ^ 8 = pow-mono {i = n} {j = 8} h in let z = binary-small n s in omega (arith, m, z)
 
-one-more : (t : Bool) (n z : ℕ) → under ((2 * n + cond t 1 0) % 2) z ≡ cond t 0 (suc z)
-one-more true n z = let e : (2 * n + 1) % 2 ≡ 1 = omega arith in rw e
-one-more false n z = let e : (2 * n + 0) % 2 ≡ 0 = omega arith in rw e
+  -- one byte more, before the others
+  binary-more : (n : ℕ) (s : List ℕ) (i : ℕ) {d : ℕ} → i < length s → d ≡ cond (p (getD s i 0)) 1 0 → 2 * binary p n (drop (suc i) s) + d ≡ binary p (suc n) (drop i s)
+  unfolding binary
+  binary-more n s i lt e = rw (drop-cons s i 0 lt, e)
 
--- one byte more, before the others
-pub more-digits : (p : ℕ → Bool) (s : List ℕ) (i k n d : ℕ) → 0 < k → k ≤ 16 → i + (k - 1) < length s → d ≡ cond (p (getD s (i + (k - 1)) 0)) 1 0 → Digits p s i k n → Digits p s i (k - 1) (2 * n + d)
-unfolding toFirst trailingZeros
-more-digits p s i k n d pos le lt ed h = by (p (getD s (i + (k - 1)) 0)) refl
-  where
-    double : 2 ^ (16 - (k - 1)) ≡ 2 ^ (16 - k) * 2
-    double = let e : 16 - (k - 1) ≡ suc (16 - k) = omega arith in ap (λ (x : ℕ). 2 ^ x) e ∙ pow-suc 2 (16 - k)
+  -- the same in a loop over eight bytes, from the last
+  pub binary-turn : (s : List ℕ) (i k d : ℕ) {r : ℕ} → 0 < k → k ≤ 8 → i + k ≤ length s → r ≡ cond (p (getD s (i + (k - 1)) 0)) 1 0 → d ≡ binary p (8 - k) (drop (i + k) s)
+      → 2 * d + r ≡ binary p (8 - (k - 1)) (drop (i + (k - 1)) s)
+  binary-turn s i k d {r} pos le lt e h =
+      let x : suc (i + (k - 1)) ≡ i + k = omega arith in
+      let y : 8 - (k - 1) ≡ suc (8 - k) = omega arith in
+      ap (λ (z : ℕ). 2 * z + r) (h ∙ ap (λ (j : ℕ). binary p (8 - k) (drop j s)) (sym x)) ∙ binary-more (8 - k) s (i + (k - 1)) (omega arith) e
+      ∙ ap (λ (j : ℕ). binary p j (drop (i + (k - 1)) s)) (sym y)
 
-    by : (t : Bool) → p (getD s (i + (k - 1)) 0) ≡ t → Digits p s i (k - 1) (2 * n + d)
-    by true e = record {
-      small = let q = double in let z : d ≡ 1 = rw (ed, e) in omega (arith, q, z, h .small);
-      first = λ less.
-          let z : d ≡ 1 = rw (ed, e) in
-          let u : 32 - (k - 1) ≡ suc (32 - k) = omega arith in
-          let f : toFirst p (drop (i + (k - 1)) s) ≡ 0 = rw (drop-cons s (i + (k - 1)) 0 lt, e) in
-          rw (u, z, f) (one-more true n (trailingZeros (32 - k) ((2 * n + 1) / 2)));
-    }
-    by false e = record {
-      small = let q = double in let z : d ≡ 0 = rw (ed, e) in omega (arith, q, z, h .small);
-      first = λ less.
-          let z : d ≡ 0 = rw (ed, e) in
-          let u : 32 - (k - 1) ≡ suc (32 - k) = omega arith in
-          let w : suc (i + (k - 1)) ≡ i + k = omega arith in
-          let f : toFirst p (drop (i + (k - 1)) s) ≡ suc (toFirst p (drop (i + k) s)) = rw (drop-cons s (i + (k - 1)) 0 lt, e) (ap (λ (j : ℕ). suc (toFirst p (drop j s))) w) in
-          let m : (2 * n + 0) / 2 ≡ n = omega arith in
-          let g : trailingZeros (32 - k) n ≡ toFirst p (drop (i + k) s) = h .first (omega (arith, f, less)) in
-          rw (u, z, f) (one-more false n (trailingZeros (32 - k) ((2 * n + 0) / 2)) ∙ ap suc (rw m g));
-    }
+  -- a bytes, and n behind them
+  binary-part : (a n m : ℕ) (s : List ℕ) → m ≡ a + n → binary p m s ≡ binary p a s + 2 ^ a * binary p n (drop a s)
+  unfolding binary
+  binary-part zero n m s e = let q : m ≡ n = omega arith in rw q (omega arith)
+  binary-part (suc a) n zero s e = absurd (omega arith)
+  binary-part (suc a) n (suc m) [] e = rw (binary-none n, mul-zero)
+  binary-part (suc a) n (suc m) (b ∷ s) e =
+      let h = binary-part a n m s (omega arith) in
+      let x : ℕ = binary p n (drop a s) in
+      let y : 2 ^ suc a * x ≡ 2 * (2 ^ a * x) = ap (λ (z : ℕ). z * x) (pow-suc 2 a ∙ mul-comm (2 ^ a) 2) ∙ mul-assoc 2 (2 ^ a) x in
+      omega (arith, h, y)
+
+  -- eight bytes, and eight behind them
+  pub binary-halves : (s : List ℕ) → binary p 8 s + 256 * binary p 8 (drop 8 s) ≡ binary p 16 s
+  binary-halves s = sym (binary-part 8 8 16 s refl)
+
+  -- as many zeros stand below the lowest digit that is 1 as bytes before the first
+  pub binary-zeros : (w n : ℕ) (s : List ℕ) → n ≤ w → n ≤ length s → toFirst p s < n → trailingZeros w (binary p n s) ≡ toFirst p s
+  unfolding binary toFirst trailingZeros
+  binary-zeros w zero s h l lt = absurd (not-suc-le-zero lt)
+  binary-zeros w (suc n) [] h l lt = absurd (not-suc-le-zero l)
+  binary-zeros zero (suc n) (b ∷ s) h l lt = absurd (not-suc-le-zero h)
+  binary-zeros (suc w) (suc n) (b ∷ s) h l lt = by (p b) lt (binary-zeros w n s (le-of-suc-le-suc h) (le-of-suc-le-suc l))
+    where
+      by : (t : Bool) → cond t 0 (suc (toFirst p s)) < suc n → (toFirst p s < n → trailingZeros w (binary p n s) ≡ toFirst p s)
+          → under ((2 * binary p n s + cond t 1 0) % 2) (trailingZeros w ((2 * binary p n s + cond t 1 0) / 2)) ≡ cond t 0 (suc (toFirst p s))
+      by true q f = let e : (2 * binary p n s + 1) % 2 ≡ 1 = omega arith in rw e
+      by false q f =
+          let e : (2 * binary p n s + 0) % 2 ≡ 0 = omega arith in
+          let m : (2 * binary p n s + 0) / 2 ≡ binary p n s = omega arith in
+          rw (e, m) (ap suc (f (le-of-suc-le-suc q)))

@@ -6,9 +6,10 @@
 --   begins w s      s begins with w, ASCII letters of s in either case (w in small letters)
 --   spells w s      s is w, likewise
 --   toFirst p s     how many bytes of s stand before the first that p holds of; all where there is none
+--   binary p n s    the first n bytes of s as binary digits, the first byte's the lowest: 1 where p holds of the byte
 --   toBracket s     how many stand before the first `]`
 -- Assumes nothing.
-use Prim.Native.Nat.{ℕ, suc, _+_}
+use Prim.Native.Nat.{ℕ, zero, suc, _+_, _*_}
 use Prim.Native.Char.{Char, code}
 use Prim.Native.String.{String}
 use mathlib.Core.Bool.{Bool, true, false, cond, _&&_, _||_}
@@ -51,6 +52,11 @@ spells (a ∷ w) (b ∷ s) = eqb (small b) a && spells w s
 unfoldable pub toFirst : (ℕ → Bool) → List ℕ → ℕ
 toFirst p [] = 0
 toFirst p (b ∷ s) = cond (p b) 0 (suc (toFirst p s))
+
+unfoldable pub binary : (ℕ → Bool) → ℕ → List ℕ → ℕ
+binary p zero s = 0
+binary p (suc n) [] = 0
+binary p (suc n) (b ∷ s) = 2 * binary p n s + cond (p b) 1 0
 
 unfoldable pub toBracket : List ℕ → ℕ
 toBracket s = toFirst (is "]") s

@@ -3,10 +3,9 @@ use crate::PostAt;
 ghost use mathlib.Core.Path.{_≡_};
 ghost use mathlib.Core.Bool.{cond};
 ghost use Prim.Native.Nat.{_+_, _≤_, _<_};
-ghost use lib.Count.{trailingZeros};
 ghost use lib.ListN.{length, getD, drop};
 ghost use lib.Dec.{eqb, ltb};
-ghost use Rattle.text.specs.Ascii.{inside, small, begins, toFirst, toBracket};
+ghost use Rattle.text.specs.Ascii.{inside, small, begins, toFirst, binary, toBracket};
 
 // The byte at i, 0 past the end.
 pub fn byte_at(s: &[u8], i: usize) -> u8
@@ -80,19 +79,26 @@ fn one_if(yes: bool) -> u32
     0
 }
 
-// The 16 bytes from i on as binary digits, the first the lowest: set where the byte is b. As many zeros stand below the lowest set digit as
-// bytes before the first b.
-fn digits_of_16(s: &[u8], i: usize, b: u8) -> u32
-    requires { ⌜ i + 16 ≤ length (now s) ⌝ }
-    ensures { λ r. ⌜ (toFirst (λ x. eqb x b) (drop i (now (s .entry))) < 16 → trailingZeros 32 r ≡ toFirst (λ x. eqb x b) (drop i (now (s .entry)))) ⌝ }
+// The 8 bytes from i on as binary digits, the first the lowest: set where the byte is b.
+fn digits_of_8(s: &[u8], i: usize, b: u8) -> u32
+    requires { ⌜ i + 8 ≤ length (now s) ⌝ }
+    ensures { λ r. ⌜ (r ≡ binary (λ x. eqb x b) 8 (drop i (now (s .entry)))) × (r < 256) ⌝ }
 {
     let mut digits: u32 = 0;
-    let mut k: usize = 16;
+    let mut k: usize = 8;
     while 0 < k {
         k -= 1;
         digits = 2 * digits + one_if(s[i + k] == b);
     }
     digits
+}
+
+// The same of 16 bytes. Two halves, since those are taken off one comparison of all 16 as they are.
+fn digits_of_16(s: &[u8], i: usize, b: u8) -> u32
+    requires { ⌜ i + 16 ≤ length (now s) ⌝ }
+    ensures { λ r. ⌜ r ≡ binary (λ x. eqb x b) 16 (drop i (now (s .entry))) ⌝ }
+{
+    digits_of_8(s, i, b) + 256 * digits_of_8(s, i + 8, b)
 }
 
 // How many of the 16 bytes from i on stand before the first b, which is among them.
