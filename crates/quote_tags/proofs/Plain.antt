@@ -4,11 +4,11 @@ use Prim.Native.Nat.{ℕ, zero, suc, _+_, _-_, _≤_, _<_}
 use native.Mathlib.Nat.{add-zero, le-of-suc-le-suc, not-suc-le-zero}
 use native.Mathlib.Omega.{arith}
 use mathlib.Core.Bool.{Bool, true, false, cond, _&&_, _||_, true≢false}
-use mathlib.Core.List.{List, [], _∷_}
+use mathlib.Core.List.{List, [], _∷_, _++_}
 use lib.ListN.{length, drop, getD}
 use lib.Seq.{getD-drop}
 use lib.Dec.{eqb}
-use borrow.Author.Tests.{ne-eqb, eqb-false}
+use borrow.Author.Tests.{eq-eqb, ne-eqb, eqb-true, eqb-false}
 use Rattle.text.specs.Ascii.{ascii, is, inside, small, begins, toFirst, toBracket}
 use Rattle.text.proofs.Bytes.{inside-true, look, look-past}
 use Rattle.quote_tags.specs.Tags.{NextBracket, beginsAny, openers, closers, openerSize, closerSize, NoTag}
@@ -86,6 +86,46 @@ module _ (s : List ℕ) (i : ℕ) {y t : ℕ} (ey : y ≡ getD s (i + 1) 0) (et 
 
   pub openers-not : (t ≡ 113 → ⊥) → false ≡ beginsAny openers (drop i s)
   openers-not n = sym (openers-other (drop i s) (second-not _ _ _ n) (second-not _ _ _ n) (second-not _ _ _ n))
+
+-- ---- a word and one byte more
+
+-- a byte that is its own small one, below the small letters
+small-same : (b c : ℕ) → c < 97 → small c ≡ c → eqb (small b) c ≡ eqb b c
+small-same b c lt e = by (eqb b c) refl
+  where
+    by : (t : Bool) → eqb b c ≡ t → eqb (small b) c ≡ t
+    by true p = eq-eqb (small b) c (ap small (eqb-true b c p) ∙ e)
+    by false p = ne-eqb (small b) c (small-other b c lt (eqb-false b c p))
+
+begins-then : (w x : List ℕ) (c : ℕ) → 0 < c → begins (w ++ (c ∷ [])) x ≡ (begins w x && eqb (small (getD x (length w) 0)) c)
+unfolding begins small inside
+begins-then [] [] c h = sym (ne-eqb 0 c (λ e. omega arith))
+begins-then [] (b ∷ x) c h = and-true (eqb (small b) c)
+  where
+    and-true : (t : Bool) → (t && true) ≡ t
+    and-true true = refl
+    and-true false = refl
+begins-then (a ∷ w) [] c h = refl
+begins-then (a ∷ w) (b ∷ x) c h = rw (begins-then w x c h) (and-assoc (eqb (small b) a) _ _)
+  where
+    and-assoc : (t u v : Bool) → (t && (u && v)) ≡ ((t && u) && v)
+    and-assoc true u v = refl
+    and-assoc false u v = refl
+
+-- the word of an opener that a function compared, and the byte behind it
+pub openers-by : (x : List ℕ) {t : Bool} {b : ℕ} → t ≡ begins (ascii "[quote") x → b ≡ getD x 6 0 → (t && ((eqb b 93 || eqb b 61) || eqb b 32)) ≡ beginsAny openers x
+unfolding beginsAny small inside
+openers-by x {t} {b} et eb = rw (then 93 (omega arith) (omega arith) refl, then 61 (omega arith) (omega arith) refl, then 32 (omega arith) (omega arith) refl) (by t _ _ _)
+  where
+    then : (c : ℕ) → 0 < c → c < 97 → small c ≡ c → begins (ascii "[quote" ++ (c ∷ [])) x ≡ (t && eqb b c)
+    then c h l e = rw (begins-then (ascii "[quote") x c h, ← et, ← eb) (ap (λ u. t && u) (small-same b c l e))
+
+    by : (t u v w : Bool) → (t && ((u || v) || w)) ≡ ((t && u) || ((t && v) || ((t && w) || false)))
+    by false u v w = refl
+    by true true v w = refl
+    by true false true w = refl
+    by true false false true = refl
+    by true false false false = refl
 
 pub first-here : (s : List ℕ) (i : ℕ) → getD (drop i s) 0 0 ≡ getD s i 0
 first-here s i = rw (getD-drop i s 0 0, add-zero)

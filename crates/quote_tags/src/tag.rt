@@ -48,13 +48,11 @@ pub fn opens_quote(s: &[u8], at: PostAt) -> bool
     if second != b'q' {
         return false;
     }
-    if begins_at(s, at, b"[quote]") {
-        return true;
+    if begins_at(s, at, b"[quote") {
+        let b = byte_at(s, i + 6);
+        return (b == b']') | (b == b'=') | (b == b' ');
     }
-    if begins_at(s, at, b"[quote=") {
-        return true;
-    }
-    begins_at(s, at, b"[quote ")
+    false
 }
 
 // Whether a quote tag may begin with these bytes: `[q`, or `[/q`.
