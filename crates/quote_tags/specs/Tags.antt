@@ -4,6 +4,7 @@
 --   openerSize s     `[quote]`, or `[quote` with `=` or space and anything up to `]`
 --   closerSize s     `[/quote]`
 --   NoTag s          s begins with no quote tag
+--   NoQ b            b is no q, small or capital
 --   attributionOf s  what stands between `=` or space and `]`, where s begins with an opener
 --   NextBracket s i b  the place b of the first `]` from i on, or the end, where it is not before i
 -- Assumes nothing.
@@ -13,7 +14,7 @@ use mathlib.Core.Bool.{Bool, false, cond, _||_}
 use mathlib.Core.List.{List, [], _∷_}
 use lib.ListN.{length, take, drop}
 use lib.Dec.{ltb}
-use Rattle.text.specs.Ascii.{ascii, begins, toBracket}
+use Rattle.text.specs.Ascii.{ascii, is, begins, toBracket}
 
 unfoldable pub upToBracket : List ℕ → ℕ
 upToBracket s = cond (ltb (toBracket s) (length s)) (suc (toBracket s)) 0
@@ -40,6 +41,9 @@ closerSize s = tagSize closers s
 
 abbrev pub NoTag : List ℕ → Type 0
 NoTag s = (openerSize s ≡ 0) × (closerSize s ≡ 0)
+
+abbrev pub NoQ : ℕ → Type 0
+NoQ b = (is "q" b || is "Q" b) ≡ false
 
 unfoldable pub attributionOf : List ℕ → List ℕ
 attributionOf s = take (openerSize s - 8) (drop 7 s)

@@ -6,11 +6,10 @@ use text::scan::next_bracket;
 use text::scan::small_of;
 ghost use mathlib.Core.Path.{_≡_};
 ghost use mathlib.Core.Bool.{false};
-ghost use mathlib.Core.List.{List};
 ghost use Prim.Native.Nat.{ℕ, _+_, _≤_, _<_};
 ghost use lib.ListN.{length, drop, getD};
 ghost use Rattle.text.specs.Ascii.{toBracket};
-ghost use Rattle.quote_tags.specs.Tags.{NextBracket, upToBracket, beginsAny, openers, openerSize, closerSize, NoTag};
+ghost use Rattle.quote_tags.specs.Tags.{NextBracket, upToBracket, beginsAny, openers, openerSize, closerSize, NoTag, NoQ};
 
 // The place of the first `]` from a place on, or the end, where `known` is that place or lies before.
 pub fn bracket_from(s: &[u8], at: PostAt, known: PostAt) -> PostAt
@@ -48,44 +47,64 @@ pub fn opens_quote(s: &[u8], at: PostAt) -> bool
     if second != b'q' {
         return false;
     }
-    if begins_at(s, at, b"[quote]") {
-        return true;
+    if begins_at(s, at, b"[quote") {
+        let b = byte_at(s, i + 6);
+        return (b == b']') | (b == b'=') | (b == b' ');
     }
-    if begins_at(s, at, b"[quote=") {
-        return true;
-    }
-    begins_at(s, at, b"[quote ")
+    false
 }
 
-// Whether a quote tag may begin with these bytes: `[q`, or `[/q`.
-fn may_begin(a: u8, b: u8, c: u8) -> bool
-    ensures { λ r. ⌜ (r ≡ false → (x : List ℕ) → getD x 0 0 ≡ a → getD x 1 0 ≡ b → getD x 2 0 ≡ c → NoTag x) ⌝ }
+// Whether a quote tag may begin at i: with `[q`, or `[/q`.
+fn may_begin(s: &[u8], i: usize) -> bool
+    requires { ⌜ i < length (now s) ⌝ }
+    ensures { λ r. ⌜ (r ≡ false → NoTag (drop i (now (s .entry)))) ⌝ }
 {
-    (a == b'[') & ((b == b'q') | (b == b'Q') | ((b == b'/') & ((c == b'q') | (c == b'Q'))))
+    if s[i] != b'[' {
+        return false;
+    }
+    let b = byte_at(s, i + 1);
+    let c = byte_at(s, i + 2);
+    (b == b'q') | (b == b'Q') | ((b == b'/') & ((c == b'q') | (c == b'Q')))
 }
 
-// Whether a quote tag may begin among the 16 bytes from i on: a few comparisons of all 16 where the machine has them.
-fn tag_in_16(s: &[u8], i: usize) -> bool
-    requires { ⌜ i + 18 ≤ length (now s) ⌝ }
-    ensures { λ r. ⌜ (r ≡ false → (j : ℕ) → i ≤ j → j < i + 16 → NoTag (drop j (now (s .entry)))) ⌝ }
+// The first place from `at` up to e where a quote tag may begin, or e.
+fn tag_before(s: &[u8], at: usize, e: usize) -> usize
+    requires { ⌜ (at ≤ e) × (e ≤ length (now s)) ⌝ }
+    ensures { λ r. ⌜ ((at ≤ r) × (r ≤ e)) × ((j : ℕ) → at ≤ j → j < r → NoTag (drop j (now (s .entry)))) ⌝ }
+{
+    let mut i = at;
+    while i < e {
+        if may_begin(s, i) {
+            return i;
+        }
+        i += 1;
+    }
+    i
+}
+
+// Whether a q stands among the 16 bytes from i on: one comparison of all 16 where the machine has it.
+fn q_in_16(s: &[u8], i: usize) -> bool
+    requires { ⌜ i + 16 ≤ length (now s) ⌝ }
+    ensures { λ r. ⌜ (r ≡ false → (j : ℕ) → i ≤ j → j < i + 16 → NoQ (getD (now (s .entry)) j 0)) ⌝ }
 {
     let mut stands = false;
     let mut k: usize = 0;
     while k < 16 {
-        stands = stands | may_begin(s[i + k], s[i + k + 1], s[i + k + 2]);
+        let b = s[i + k];
+        stands = stands | ((b == b'q') | (b == b'Q'));
         k += 1;
     }
     stands
 }
 
-// The place from which on to look for a quote tag one by one: none begins between.
+// The place of a block of 16 with a q, or of the rest that is shorter: no q stands between.
 fn past_16s(s: &[u8], at: usize) -> usize
     requires { ⌜ at ≤ length (now s) ⌝ }
-    ensures { λ r. ⌜ ((at ≤ r) × (r ≤ length (now (s .entry)))) × ((j : ℕ) → at ≤ j → j < r → NoTag (drop j (now (s .entry)))) ⌝ }
+    ensures { λ r. ⌜ ((at ≤ r) × (r ≤ length (now (s .entry)))) × ((j : ℕ) → at ≤ j → j < r → NoQ (getD (now (s .entry)) j 0)) ⌝ }
 {
     let mut i = at;
-    while 18 <= s.len() - i {
-        if tag_in_16(s, i) {
+    while 16 <= s.len() - i {
+        if q_in_16(s, i) {
             return i;
         }
         i += 16;
@@ -93,17 +112,43 @@ fn past_16s(s: &[u8], at: usize) -> usize
     i
 }
 
-// The first place from a place on where a quote tag may begin, or the end.
+// The end of the block of 16 from j on, or of the text.
+fn block_end(s: &[u8], j: usize) -> usize
+    requires { ⌜ j ≤ length (now s) ⌝ }
+    ensures { λ r. ⌜ ((j ≤ r) × (r ≤ length (now (s .entry)))) × (j < length (now (s .entry)) → j < r) ⌝ }
+{
+    if 16 <= s.len() - j {
+        return j + 16;
+    }
+    s.len()
+}
+
+// Two places before j, but not before i.
+fn two_back(i: usize, j: usize) -> usize
+    requires { ⌜ i ≤ j ⌝ }
+    ensures { λ r. ⌜ ((i ≤ r) × (r ≤ j)) × (i < r → r + 2 ≤ j) ⌝ }
+{
+    if j - i < 2 {
+        return i;
+    }
+    j - 2
+}
+
+// The first place from a place on where a quote tag may begin, or the end. A tag's q is its second byte or its third, and a q is rare: so
+// places are looked at one by one only from two before a block with a q on.
 pub fn next_tag(s: &[u8], at: PostAt) -> PostAt
     requires { ⌜ at .0 ≤ length (now s) ⌝ }
     ensures { λ r. ⌜ ((at .0 ≤ r .0) × (r .0 ≤ length (now (s .entry)))) × ((j : ℕ) → at .0 ≤ j → j < r .0 → NoTag (drop j (now (s .entry)))) ⌝ }
 {
-    let mut i = past_16s(s, at.0);
+    let mut i = at.0;
     while i < s.len() {
-        if may_begin(s[i], byte_at(s, i + 1), byte_at(s, i + 2)) {
-            return PostAt(i);
+        let j = past_16s(s, i);
+        let e = block_end(s, j);
+        let k = tag_before(s, two_back(i, j), e);
+        if k < e {
+            return PostAt(k);
         }
-        i += 1;
+        i = e;
     }
     PostAt(i)
 }

@@ -3,29 +3,29 @@ use native.Mathlib.Omega.{arith}
 use mathlib.Core.Path.{_≡_, refl, sym, ap, _∙_}
 use Prim.Native.Nat.{ℕ, suc, _+_, _-_, _≤_, _<_}
 use mathlib.Core.List.{List, [], _∷_, _++_}
-use lib.ListN.{length, getD, drop}
-use Rattle.quote_tags.specs.Tags.{NoTag}
-use Rattle.quote_tags.proofs.Places.{Between, between-then}
+use lib.ListN.{length, getD}
+use Rattle.quote_tags.specs.Tags.{NoQ}
+use Rattle.quote_tags.proofs.Places.{Between, between-none, between-then}
 use Rattle.quote_tags.proofs.tag.past_16s.Statement.{statement}
 use Rattle.quote_tags.proofs.tag.past_16s.Tie as tie
 use Rattle.quote_tags.proofs.tag.past_16s.Reads as reads
 use Rattle.quote_tags.proofs.tag.past_16s.Lts as lts
-use Rattle.quote_tags.proofs.tag.tag_in_16.Reads as tag-in-16-reads
+use Rattle.quote_tags.proofs.tag.q_in_16.Reads as q-in-16-reads
 
 abbrev Inv-loop : tie.InvT-loop
-Inv-loop s at i₀ i = ((at ≤ i) × (i ≤ length s)) × Between (λ j. NoTag (drop j s)) at i
+Inv-loop s at i₀ i = ((at ≤ i) × (i ≤ length s)) × Between (λ j. NoQ (getD s j 0)) at i
 
 abbrev μ-loop : tie.MeasureT-loop
 μ-loop s at i₀ i = length s - i
 
 loop-holds : tie.Need-loop-holds Inv-loop μ-loop
-loop-holds c = ((search needs, search needs), λ j h l. absurd (omega arith))
+loop-holds c = ((search needs, search needs), between-none _ _)
 
 sub-loop : tie.Need-sub-loop Inv-loop μ-loop
 sub-loop c = search needs
 
-tag-in-16-requires : tie.Need-tag-in-16-requires Inv-loop μ-loop
-tag-in-16-requires c κs = search needs
+q-in-16-requires : tie.Need-q-in-16-requires Inv-loop μ-loop
+q-in-16-requires c κs = search needs
 
 returns : tie.Need-returns Inv-loop μ-loop
 returns c = c .before .before .before .loop .inv
@@ -40,7 +40,7 @@ loop-again : tie.Need-loop-again Inv-loop μ-loop
 loop-again c =
     let l = c .before .before .before .loop in
     let a = c .before .before .before .before .before .args in
-    ((search needs, search needs), between-then (λ j. NoTag (drop j (a .s .now))) (a .at) (l .i) (l .i + 16) (l .inv .1) (c .before .tag-in-16 .ensures (c .if1 .left)))
+    ((search needs, search needs), between-then (λ j. NoQ (getD (a .s .now) j 0)) (a .at) (l .i) (l .i + 16) (l .inv .1) (c .before .q-in-16 .ensures (c .if1 .left)))
 
 returns-2 : tie.Need-returns-2 Inv-loop μ-loop
 returns-2 c = c .before .loop .inv
@@ -53,7 +53,7 @@ past-16s-spec =
     μ-loop
     loop-holds
     sub-loop
-    tag-in-16-requires
+    q-in-16-requires
     returns
     add-i
     loop-less
