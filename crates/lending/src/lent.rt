@@ -130,7 +130,8 @@ fn past_clean(s: &[u8], at: usize) -> usize
     i
 }
 
-// Whether neither refusal 3 nor 4 applies. Where a block is odd, its characters are read one by one: up to e.
+// Whether neither refusal 3 nor 4 applies. Where a block is odd, its characters are read one by one, up to e: at most past its first
+// character of more bytes than one.
 fn is_clean(s: &[u8]) -> bool
     ensures { λ r. ⌜ r ≡ (utf8 (now (s .entry)) && not (anyZeroOrReturn (now (s .entry)))) ⌝ }
 {
@@ -153,6 +154,7 @@ fn is_clean(s: &[u8]) -> bool
                     return false;
                 }
                 i += n;
+                e = i;
             }
         }
     }

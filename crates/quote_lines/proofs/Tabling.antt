@@ -1,7 +1,7 @@
 -- Laws of the table of quote tags: s is the text, ns the numbers. Assumes nothing.
 use mathlib.Core.Path.{_≡_, refl, sym, ap, subst, _∙_}
 use Prim.Native.Nat.{ℕ, zero, suc, _+_, _-_, _*_, _≤_, _<_}
-use native.Mathlib.Nat.{add-zero, zero-add, suc-add, le-of-suc-le-suc, not-suc-le-zero}
+use native.Mathlib.Nat.{add-zero, zero-add, suc-add}
 use native.Mathlib.Omega.{arith}
 use native.Mathlib.Decide.{decLe}
 use native.Mathlib.Numerals.{add-one}
@@ -12,7 +12,6 @@ use lib.Seq.{drop-cons, drop-drop, getD-drop, getD-take, getD-set-same, getD-set
 use lib.Dec.{eqb, ltb}
 use borrow.Author.Tests.{eqb-true, eq-eqb}
 use Rattle.text.specs.Ascii.{is, begins, small, inside, toFirst, toBracket}
-use Rattle.text.proofs.Bytes.{first-within, first-stops}
 use Rattle.quote_tags.proofs.Masking.{drop-take-take}
 use Rattle.quote_tags.proofs.Plain.{PlainRun}
 use Rattle.quote_tags.proofs.Places.{between-none, between-one}
@@ -22,60 +21,37 @@ use Rattle.quote_lines.specs.Tables.{wordsAt, TagAt, noTag, Table, Table
 
 -- ---- lines
 
--- no line feed among the first n bytes
-lines-run : (n line : ℕ) (x : List ℕ) → n ≤ toFirst (is "\n") x → linesBehind line x ≡ linesBehind line (drop n x)
-unfolding linesBehind toFirst
-lines-run zero line x h = refl
-lines-run (suc n) line [] h = refl
-lines-run (suc n) line (b ∷ x) h = by (is "\n" b) h (lines-run n line x)
-  where
-    by : (t : Bool) → suc n ≤ cond t 0 (suc (toFirst (is "\n") x)) → (n ≤ toFirst (is "\n") x → linesBehind line x ≡ linesBehind line (drop n x))
-        → linesBehind (cond t (suc line) line) x ≡ linesBehind line (drop n x)
-    by true q k = absurd (not-suc-le-zero q)
-    by false q k = k (le-of-suc-le-suc q)
-
--- the line behind what stands from i up to e is the line behind what stands from a up to e
-pub record Behind (s : List ℕ) (a e line i now : ℕ) : Type 0 where
-  pub same : linesBehind now (drop i (take e s)) ≡ linesBehind line (drop a (take e s))
-  pub most : now ≤ line + (i - a)
+-- so many line feeds stand from a up to i: the line behind e can be told from there on
+pub record Behind (s : List ℕ) (a e line i feeds : ℕ) : Type 0 where
+  pub same : linesBehind (line + feeds) (drop i (take e s)) ≡ linesBehind line (drop a (take e s))
+  pub most : feeds ≤ i - a
   pub order : a ≤ i
   pub inside : i ≤ e
 
-pub behind : (s : List ℕ) (a e line : ℕ) → a ≤ e → Behind s a e line a line
-behind s a e line h = record { same = refl; most = omega arith; order = omega arith; inside = h }
+pub behind : (s : List ℕ) (a e line : ℕ) → a ≤ e → Behind s a e line a 0
+behind s a e line h = record { same = rw add-zero; most = omega arith; order = omega arith; inside = h }
 
-module _ {s : List ℕ} {a e line i now : ℕ} (w : Behind s a e line i now) where
-  pub behind-end : e ≤ i → (now ≡ linesBehind line (take (e - a) (drop a s))) × (now ≤ line + (e - a))
+module _ {s : List ℕ} {a e line i feeds : ℕ} (w : Behind s a e line i feeds) where
+  pub behind-byte : {k : ℕ} → i < e → e ≤ length s → k ≡ cond (is "\n" (getD s i 0)) 1 0 → Behind s a e line (i + 1) (feeds + k)
+  unfolding linesBehind
+  behind-byte {k} lt le q =
+      let l : length (take e s) ≡ e = length-take-le e s le in
+      let d : drop i (take e s) ≡ getD s i 0 ∷ drop (i + 1) (take e s) = rw (add-one, ← getD-take e s i 0 lt) (drop-cons (take e s) i 0 (omega arith)) in
+      let n = by (is "\n" (getD s i 0)) q in
+      let t : linesBehind (line + feeds) (drop i (take e s)) ≡ linesBehind (line + (feeds + k)) (drop (i + 1) (take e s)) =
+      ap (linesBehind (line + feeds)) d ∙ ap (λ (j : ℕ). linesBehind j (drop (i + 1) (take e s))) (n .0) in
+      record { same = sym t ∙ w .same; most = omega (arith, n .1, w .most, w .order); order = omega (arith, w .order); inside = omega arith }
+    where
+      by : (t : Bool) → k ≡ cond t 1 0 → (cond t (suc (line + feeds)) (line + feeds) ≡ line + (feeds + k)) × (k ≤ 1)
+      by true z = (omega arith, omega arith)
+      by false z = (omega arith, omega arith)
+
+  pub behind-end : e ≤ i → (line + feeds ≡ linesBehind line (take (e - a) (drop a s))) × (line + feeds ≤ line + (e - a))
   unfolding linesBehind
   behind-end le =
       let z : drop i (take e s) ≡ [] = drop-of-length-le (take e s) {i = i} (let l = length-take e s in omega arith) in
-      let t : linesBehind now (drop i (take e s)) ≡ now = rw z in
+      let t : linesBehind (line + feeds) (drop i (take e s)) ≡ line + feeds = rw z in
       (sym t ∙ w .same ∙ ap (linesBehind line) (drop-take-take a e s), omega (arith, w .most, w .inside))
-
-  -- the next line feed, or the end, stands at q
-  module _ {q : ℕ} (le : e ≤ length s) (f : q ≡ i + toFirst (is "\n") (drop i (take e s))) where
-    pub behind-run : Behind s a e line q now
-    behind-run =
-        let l : length (take e s) ≡ e = length-take-le e s le in
-        let d = length-drop i (take e s) in
-        let n = first-within (is "\n") (drop i (take e s)) in
-        let x : i + (q - i) ≡ q = omega arith in
-        let r : linesBehind now (drop i (take e s)) ≡ linesBehind now (drop q (take e s)) =
-        lines-run (q - i) now (drop i (take e s)) (omega arith) ∙ ap (linesBehind now) (drop-drop (q - i) i (take e s) ∙ ap (λ (j : ℕ). drop j (take e s)) x) in
-        record { same = sym r ∙ w .same; most = omega (arith, w .most, w .order); order = omega (arith, w .order); inside = omega (arith, n, w .inside) }
-
-    pub behind-feed : q < e → Behind s a e line (q + 1) (now + 1)
-    unfolding linesBehind
-    behind-feed lt =
-        let v = behind-run in
-        let l : length (take e s) ≡ e = length-take-le e s le in
-        let m = length-drop i (take e s) in
-        let b : is "\n" (getD (take e s) q 0) ≡ true =
-        ap (λ (j : ℕ). is "\n" (getD (take e s) j 0)) f ∙ ap (is "\n") (sym (getD-drop i (take e s) _ 0)) ∙ first-stops (is "\n") (drop i (take e s)) (omega arith) in
-        let d : drop q (take e s) ≡ getD (take e s) q 0 ∷ drop (q + 1) (take e s) = rw add-one (drop-cons (take e s) q 0 (omega arith)) in
-        let g : lineAfter (getD (take e s) q 0) now ≡ now + 1 = rw (b, add-one) in
-        let t : linesBehind now (drop q (take e s)) ≡ linesBehind (now + 1) (drop (q + 1) (take e s)) = ap (linesBehind now) d ∙ ap (λ (n : ℕ). linesBehind n (drop (q + 1) (take e s))) g in
-        record { same = sym t ∙ v .same; most = omega (arith, v .most, v .order); order = omega (arith, v .order); inside = omega arith }
 
 -- ---- the tags from a place on
 

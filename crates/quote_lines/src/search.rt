@@ -6,7 +6,7 @@ use quote_tags::tag::opens_quote;
 use quote_tags::tag::up_to_bracket;
 use text::PostAt;
 use text::scan::next_bracket;
-use text::scan::next_byte;
+use text::scan::one_if;
 use text::source::set_source;
 ghost use mathlib.Core.Path.{_≡_};
 ghost use Prim.Native.Nat.{_+_, _-_, _*_, _≤_, _<_};
@@ -80,23 +80,18 @@ fn same_bare(s: &[u8], a: &[u8]) -> bool
     true
 }
 
-// The line behind the text from a place up to another.
+// The line behind the text from a place up to another. Counted in a u32, of which a machine adds twice as many at once as of a usize.
 fn line_behind(s: &[u8], a: usize, e: usize, line: usize) -> usize
     requires { ⌜ (a ≤ e) × ((e ≤ length (now s)) × (line + (e - a) ≤ 1000000)) ⌝ }
     ensures { λ r. ⌜ (r ≡ linesBehind line (take (e - a) (drop a (now (s .entry))))) × (r ≤ line + (e - a)) ⌝ }
 {
     let mut i = a;
-    let mut now_line = line;
+    let mut feeds: u32 = 0;
     while i < e {
-        let feed = next_byte(&s[..e], PostAt(i), b'\n');
-        i = feed.0;
-        if e <= i {
-            return now_line;
-        }
-        now_line += 1;
+        feeds += one_if(s[i] == b'\n');
         i += 1;
     }
-    now_line
+    line + feeds as usize
 }
 
 // How many bytes the attribution of an opener of k bytes has.

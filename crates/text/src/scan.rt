@@ -70,7 +70,7 @@ fn stands_in_16(s: &[u8], i: usize, b: u8) -> bool
     stands
 }
 
-fn one_if(yes: bool) -> u32
+pub fn one_if(yes: bool) -> u32
     ensures { λ r. ⌜ (r ≡ cond yes 1 0) × (r ≤ 1) ⌝ }
 {
     if yes {
