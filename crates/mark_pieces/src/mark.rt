@@ -2,8 +2,8 @@
 use crate::class::is_braced;
 use crate::piece::insert;
 use crate::piece::is_even;
-use mark_tags::tags::one_if;
 use text::TextAt;
+use text::scan::one_if;
 use text::write::put_sign;
 ghost use mathlib.Core.Path.{_≡_};
 ghost use mathlib.Core.Bool.{true};

@@ -1,19 +1,11 @@
 // Reading tags: `[`, letter, `]`, or `[`, `/`, letter, `]`.
+use text::scan::one_if;
 ghost use mathlib.Core.Path.{_≡_};
 ghost use mathlib.Core.Bool.{cond};
 ghost use Prim.Native.Nat.{_≤_, _<_};
 ghost use lib.ListN.{length, drop};
 ghost use Rattle.mark_tags.specs.Marks.{kindOf, tagOfBytes, tagAt};
 ghost use Rattle.mark_tags.specs.Flat.{letterNumber, tagNumber};
-
-pub fn one_if(yes: bool) -> u32
-    ensures { λ r. ⌜ (r ≡ cond yes 1 0) × (r ≤ 1) ⌝ }
-{
-    if yes {
-        return 1;
-    }
-    0
-}
 
 // The kind that a letter names, as a number; 4 where there is none. A sum: branches on the letter would be mispredicted.
 fn kind_of(a: u8) -> u32

@@ -6,9 +6,9 @@ use native.Mathlib.Omega.{arith}
 use native.Mathlib.Decide.{decLe}
 use native.Mathlib.Numerals.{add-one}
 use mathlib.Core.Bool.{Bool, true, false, cond, _&&_, _||_, true≢false}
-use mathlib.Core.List.{List, [], _∷_}
+use mathlib.Core.List.{List, [], _∷_, _++_}
 use lib.ListN.{length, take, drop, getD, set, length-set, length-take, length-drop, drop-of-length-le}
-use lib.Seq.{drop-cons, drop-drop, getD-drop, getD-take, getD-set-same, getD-set-other, take-take, take-set-le, length-take-le}
+use lib.Seq.{take-add, drop-cons, drop-drop, getD-drop, getD-take, getD-set-same, getD-set-other, take-take, take-set-le, length-take-le}
 use lib.Dec.{eqb, ltb}
 use borrow.Author.Tests.{eqb-true, eq-eqb}
 use Rattle.text.specs.Ascii.{is, begins, small, inside, toFirst, toBracket}
@@ -31,6 +31,11 @@ pub record Behind (s : List ℕ) (a e line i feeds : ℕ) : Type 0 where
 pub behind : (s : List ℕ) (a e line : ℕ) → a ≤ e → Behind s a e line a 0
 behind s a e line h = record { same = rw add-zero; most = omega arith; order = omega arith; inside = h }
 
+lines-append : (line : ℕ) (xs ys : List ℕ) → linesBehind line (xs ++ ys) ≡ linesBehind (linesBehind line xs) ys
+unfolding linesBehind
+lines-append line [] ys = refl
+lines-append line (b ∷ xs) ys = lines-append (lineAfter b line) xs ys
+
 module _ {s : List ℕ} {a e line i feeds : ℕ} (w : Behind s a e line i feeds) where
   pub behind-byte : {k : ℕ} → i < e → e ≤ length s → k ≡ cond (is "\n" (getD s i 0)) 1 0 → Behind s a e line (i + 1) (feeds + k)
   unfolding linesBehind
@@ -45,6 +50,21 @@ module _ {s : List ℕ} {a e line i feeds : ℕ} (w : Behind s a e line i feeds)
       by : (t : Bool) → k ≡ cond t 1 0 → (cond t (suc (line + feeds)) (line + feeds) ≡ line + (feeds + k)) × (k ≤ 1)
       by true z = (omega arith, omega arith)
       by false z = (omega arith, omega arith)
+
+  -- a run whose feeds are counted
+  pub behind-run : {j k : ℕ} → i ≤ j → j ≤ e → ((x : ℕ) → x + k ≡ linesBehind x (take (j - i) (drop i s))) × (k ≤ j - i) → Behind s a e line j (feeds + k)
+  behind-run {j} {k} le lt q =
+      let run : List ℕ = take (j - i) (drop i s) in
+      let x : i + (j - i) ≡ j = omega arith in
+      let y : e - i ≡ j - i + (e - j) = omega arith in
+      let d : drop i (take e s) ≡ run ++ drop j (take e s) =
+      drop-take-take i e s ∙ ap (λ (n : ℕ). take n (drop i s)) y ∙ take-add (j - i) (e - j) (drop i s)
+      ∙ ap (λ (z : List ℕ). run ++ take (e - j) z) (drop-drop (j - i) i s ∙ ap (λ (n : ℕ). drop n s) x) ∙ ap (λ (z : List ℕ). run ++ z) (sym (drop-take-take j e s)) in
+      let n : line + feeds + k ≡ line + (feeds + k) = omega arith in
+      let t : linesBehind (line + feeds) (drop i (take e s)) ≡ linesBehind (line + (feeds + k)) (drop j (take e s)) =
+      ap (linesBehind (line + feeds)) d ∙ lines-append (line + feeds) run (drop j (take e s))
+      ∙ ap (λ (z : ℕ). linesBehind z (drop j (take e s))) (sym (q .0 (line + feeds)) ∙ n) in
+      record { same = sym t ∙ w .same; most = omega (arith, q .1, w .most, w .order); order = omega (arith, w .order); inside = lt }
 
   pub behind-end : e ≤ i → (line + feeds ≡ linesBehind line (take (e - a) (drop a s))) × (line + feeds ≤ line + (e - a))
   unfolding linesBehind

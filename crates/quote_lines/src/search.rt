@@ -6,10 +6,11 @@ use quote_tags::tag::opens_quote;
 use quote_tags::tag::up_to_bracket;
 use text::PostAt;
 use text::scan::next_bracket;
-use text::scan::one_if;
+use text::shorter;
 use text::source::set_source;
 ghost use mathlib.Core.Path.{_≡_};
-ghost use Prim.Native.Nat.{_+_, _-_, _*_, _≤_, _<_};
+ghost use mathlib.Core.Bool.{cond};
+ghost use Prim.Native.Nat.{ℕ, _+_, _-_, _*_, _≤_, _<_};
 ghost use lib.ListN.{length, take, drop};
 ghost use Rattle.text.specs.Ascii.{toBracket};
 ghost use Rattle.quote_tags.specs.Tags.{NextBracket, openerSize};
@@ -80,18 +81,43 @@ fn same_bare(s: &[u8], a: &[u8]) -> bool
     true
 }
 
-// The line behind the text from a place up to another. Counted in a u32, of which a machine adds twice as many at once as of a usize.
+fn byte_if(yes: bool) -> u8
+    ensures { λ r. ⌜ (r ≡ cond yes 1 0) × (r ≤ 1) ⌝ }
+{
+    if yes {
+        return 1;
+    }
+    0
+}
+
+// How many line feeds stand from a place up to another, at most 128 bytes. The count is a byte, so that 16 bytes are counted at once where the
+// machine can.
+fn feeds_in(s: &[u8], a: usize, e: usize) -> u8
+    requires { ⌜ (a ≤ e) × ((e ≤ length (now s)) × (e ≤ a + 128)) ⌝ }
+    ensures { λ r. ⌜ ((line : ℕ) → line + r ≡ linesBehind line (take (e - a) (drop a (now (s .entry))))) × (r ≤ e - a) ⌝ }
+{
+    let mut i = a;
+    let mut feeds: u8 = 0;
+    while i < e {
+        feeds += byte_if(s[i] == b'\n');
+        i += 1;
+    }
+    feeds
+}
+
+// The line behind the text from a place up to another.
 fn line_behind(s: &[u8], a: usize, e: usize, line: usize) -> usize
     requires { ⌜ (a ≤ e) × ((e ≤ length (now s)) × (line + (e - a) ≤ 1000000)) ⌝ }
     ensures { λ r. ⌜ (r ≡ linesBehind line (take (e - a) (drop a (now (s .entry))))) × (r ≤ line + (e - a)) ⌝ }
 {
     let mut i = a;
-    let mut feeds: u32 = 0;
+    let mut feeds: usize = 0;
     while i < e {
-        feeds += one_if(s[i] == b'\n');
-        i += 1;
+        let next = i + shorter(128, e - i);
+        feeds += feeds_in(s, i, next) as usize;
+        i = next;
     }
-    line + feeds as usize
+    line + feeds
 }
 
 // How many bytes the attribution of an opener of k bytes has.

@@ -13,7 +13,7 @@ use Rattle.mark_pieces.proofs.mark.finish_mark.Reads as reads
 use Rattle.mark_pieces.proofs.mark.finish_mark.Lts as lts
 use Rattle.mark_pieces.proofs.mark.close_mark.Reads as close-mark-reads
 use Rattle.mark_pieces.proofs.mark.escape_brace.Reads as escape-brace-reads
-use Rattle.mark_tags.proofs.tags.one_if.Reads as one-if-reads
+use Rattle.text.proofs.scan.one_if.Reads as one-if-reads
 use Rattle.mark_pieces.proofs.mark.put_span.Reads as put-span-reads
 use Rattle.mark_pieces.proofs.mark.takes_braces.Reads as takes-braces-reads
 

@@ -9,7 +9,7 @@ use Rattle.mark_tags.proofs.tags.kind_of.Statement.{statement}
 use Rattle.mark_tags.proofs.tags.kind_of.Tie as tie
 use Rattle.mark_tags.proofs.tags.kind_of.Reads as reads
 use Rattle.mark_tags.proofs.tags.kind_of.Lts as lts
-use Rattle.mark_tags.proofs.tags.one_if.Reads as one-if-reads
+use Rattle.text.proofs.scan.one_if.Reads as one-if-reads
 
 one-if-requires : tie.Need-one-if-requires
 one-if-requires c κs = search needs

@@ -15,7 +15,7 @@ use Rattle.mark_tags.proofs.tags.tag_of.Reads as reads
 use Rattle.mark_tags.proofs.tags.tag_of.Lts as lts
 use Rattle.mark_tags.proofs.tags.either.Reads as either-reads
 use Rattle.mark_tags.proofs.tags.kind_of.Reads as kind-of-reads
-use Rattle.mark_tags.proofs.tags.one_if.Reads as one-if-reads
+use Rattle.text.proofs.scan.one_if.Reads as one-if-reads
 
 either-requires : tie.Need-either-requires
 either-requires c κs = search needs

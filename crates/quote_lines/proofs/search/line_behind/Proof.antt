@@ -4,12 +4,13 @@ use mathlib.Core.Path.{_≡_, refl, sym, ap, _∙_}
 use Prim.Native.Nat.{ℕ, suc, _+_, _-_, _≤_, _<_}
 use mathlib.Core.List.{List, [], _∷_, _++_}
 use lib.ListN.{length, getD}
-use Rattle.quote_lines.proofs.Tabling.{Behind, behind, behind-byte, behind-end}
+use Rattle.quote_lines.proofs.Tabling.{Behind, behind, behind-run, behind-end}
 use Rattle.quote_lines.proofs.search.line_behind.Statement.{statement}
 use Rattle.quote_lines.proofs.search.line_behind.Tie as tie
 use Rattle.quote_lines.proofs.search.line_behind.Reads as reads
 use Rattle.quote_lines.proofs.search.line_behind.Lts as lts
-use Rattle.text.proofs.scan.one_if.Reads as one-if-reads
+use Rattle.quote_lines.proofs.search.feeds_in.Reads as feeds-in-reads
+use Rattle.text.proofs.shorter.Reads as shorter-reads
 
 abbrev Inv-loop : tie.InvT-loop
 Inv-loop s a e line i₀ feeds₀ i feeds = Behind s a e line i feeds
@@ -17,33 +18,47 @@ Inv-loop s a e line i₀ feeds₀ i feeds = Behind s a e line i feeds
 abbrev μ-loop : tie.MeasureT-loop
 μ-loop s a e line i₀ feeds₀ i feeds = e - i
 
+-- src/search.rt:115:5
 loop-holds : tie.Need-loop-holds Inv-loop μ-loop
 loop-holds c = behind _ _ _ _ (c .before .pre .0)
 
-shared-slice-read-one-if : tie.Need-shared-slice-read-one-if Inv-loop μ-loop
-shared-slice-read-one-if c = search needs
+-- src/search.rt:116:37
+sub-shorter : tie.Need-sub-shorter Inv-loop μ-loop
+sub-shorter c = search needs
 
-one-if-requires : tie.Need-one-if-requires Inv-loop μ-loop
-one-if-requires c κs = search needs
+-- src/search.rt:116:24
+shorter-requires : tie.Need-shorter-requires Inv-loop μ-loop
+shorter-requires c κs = search needs
 
+-- src/search.rt:116:20
+add-next : tie.Need-add-next Inv-loop μ-loop
+add-next c = search needs
+
+-- src/search.rt:117:18
+feeds-in-requires : tie.Need-feeds-in-requires Inv-loop μ-loop
+feeds-in-requires c κs = search needs
+
+-- src/search.rt:117:18
+cast-feeds : tie.Need-cast-feeds Inv-loop μ-loop
+cast-feeds c = search needs
+
+-- src/search.rt:117:9
 add-feeds : tie.Need-add-feeds Inv-loop μ-loop
 add-feeds c = search needs
 
-add-i : tie.Need-add-i Inv-loop μ-loop
-add-i c = search needs
-
+-- src/search.rt:115:5
 loop-less : tie.Need-loop-less Inv-loop μ-loop
 loop-less c = search needs
 
+-- src/search.rt:115:5
 loop-again : tie.Need-loop-again Inv-loop μ-loop
-loop-again c = behind-byte (c .before .before .before .loop .inv) (omega arith) (c .before .before .before .before .before .pre .1 .0) (c .one-if .ensures .0)
+loop-again c = behind-run (c .before .before .before .loop .inv) (omega arith) (omega (arith, c .before .shorter .ensures, c .before .before .loop-test .taken)) (c .feeds-in .ensures)
 
-cast-result : tie.Need-cast-result Inv-loop μ-loop
-cast-result c = search needs
-
+-- src/search.rt:120:5
 add-result : tie.Need-add-result Inv-loop μ-loop
 add-result c = search needs
 
+-- src/search.rt:109:1
 returns : tie.Need-returns Inv-loop μ-loop
 returns c = behind-end (c .before .loop .inv) (omega arith)
 
@@ -54,12 +69,13 @@ line-behind-spec =
     Inv-loop
     μ-loop
     loop-holds
-    shared-slice-read-one-if
-    one-if-requires
+    sub-shorter
+    shorter-requires
+    add-next
+    feeds-in-requires
+    cast-feeds
     add-feeds
-    add-i
     loop-less
     loop-again
-    cast-result
     add-result
     returns)
