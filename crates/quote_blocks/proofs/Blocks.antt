@@ -11,7 +11,7 @@ use borrow.Author.Tests.{ltb-true, ltb-false}
 use lib.Seq.{length-take-le}
 use Rattle.text.specs.Ascii.{ascii, computes as asciiComputes}
 use Rattle.text.specs.Blanks.{computes as blanksCompute}
-use Rattle.text.specs.Cells.{Cell, cells, part, written, feed, cellsFrom, computes as cellsCompute}
+use Rattle.text.specs.Cells.{Cell, cell, cells, part, written, feed, sign, cellsFrom, computes as cellsCompute}
 use Rattle.text.specs.Lines.{trimStart, trimEnd, trim, allBlank, lines, followed, joined}
 use Rattle.text.specs.Writes.{Holds, Appends}
 use Rattle.text.proofs.Writing.{appends-then, part-end, cells-le, cells-short, cells-short₂}
@@ -19,13 +19,14 @@ use Rattle.quote_blocks.specs.Quotes.{quotedLine, quotedLines, captionLi
 
 -- ---- a line
 
-pub line-blank : {v v' : List Cell} {at at' : ℕ} {b : Bool} (l : List Cell) → Appends v at v' at' (written (ascii ">")) → b ≡ allBlank l → b ≡ true → Appends v at v' at' (quotedLine l)
-unfolding quotedLine
-line-blank l p e t = rw (sym e ∙ t) p
+module _ {v v₁ : List Cell} {at at₁ : ℕ} {b : Bool} (l : List Cell) (p : Appends v at v₁ at₁ (sign 62 ∷ [])) (e : b ≡ allBlank l) where
+  pub line-blank : b ≡ true → Appends v at v₁ at₁ (quotedLine l)
+  unfolding quotedLine asciiComputes blanksCompute cellsCompute
+  line-blank t = rw (sym e ∙ t) p
 
-pub line-other : {v v₁ v₂ : List Cell} {at at₁ at₂ : ℕ} {b : Bool} (l : List Cell) → Appends v at v₁ at₁ (written (ascii "> ")) → Appends v₁ at₁ v₂ at₂ l → b ≡ allBlank l → b ≡ false → Appends v at v₂ at₂ (quotedLine l)
-unfolding quotedLine
-line-other l p q e t = rw (sym e ∙ t) (appends-then p q)
+  pub line-other : {v₂ v₃ : List Cell} {at₂ at₃ : ℕ} → b ≡ false → Appends v₁ at₁ v₂ at₂ (cell 32 1 ∷ []) → Appends v₂ at₂ v₃ at₃ l → Appends v at v₃ at₃ (quotedLine l)
+  unfolding quotedLine asciiComputes blanksCompute cellsCompute
+  line-other t q r = rw (sym e ∙ t) (appends-then (appends-then p q) r)
 
 -- ---- lines behind line feeds
 
@@ -46,22 +47,16 @@ pub lines-first : {v v₁ v₂ : List Cell} {at at₁ at₂ : ℕ} (x l y : List
 unfolding quotedLines joined
 lines-first x l y e p q = rw e (appends-then p q)
 
-pub lines-none : {v v' : List Cell} {at at' : ℕ} (x : List Cell) (i e : ℕ) → e ≤ i → Appends v at v' at' (written (ascii ">")) → Appends v at v' at' (quotedLines (lines (part i e x)))
-unfolding quotedLines lines
+pub lines-none : {v v' : List Cell} {at at' : ℕ} (x : List Cell) (i e : ℕ) → e ≤ i → Appends v at v' at' (sign 62 ∷ []) → Appends v at v' at' (quotedLines (lines (part i e x)))
+unfolding quotedLines lines asciiComputes blanksCompute cellsCompute
 lines-none x i e h p = rw (part-end i e x h) p
 
 -- ---- the quoted content
 
-feeds : written (ascii "\n\n") ≡ feed ∷ feed ∷ []
-unfolding asciiComputes blanksCompute cellsCompute
-feeds = refl
-
-pub quoted-by : {v v₁ v₂ : List Cell} {at at₁ at₂ : ℕ} (x y z : List Cell) → y ≡ trimStart x → z ≡ trimEnd y → Appends v at v₁ at₁ (written (ascii "\n\n")) → Appends v₁ at₁ v₂ at₂ (quotedLines (lines z))
-    → Appends v at v₂ at₂ (feed ∷ feed ∷ quotedLines (lines (trim x)))
+pub quoted-by : {v v₁ v₂ v₃ : List Cell} {at at₁ at₂ at₃ : ℕ} (x y z : List Cell) → y ≡ trimStart x → z ≡ trimEnd y → Appends v at v₁ at₁ (feed ∷ []) → Appends v₁ at₁ v₂ at₂ (feed ∷ [])
+    → Appends v₂ at₂ v₃ at₃ (quotedLines (lines z)) → Appends v at v₃ at₃ (feed ∷ feed ∷ quotedLines (lines (trim x)))
 unfolding trim
-quoted-by {v} {v₁} {v₂} {at} {at₁} {at₂} x y z p q a b =
-    let w : Appends v at v₁ at₁ (feed ∷ feed ∷ []) = rw (sym feeds) a in
-    rw (sym p, sym q) (appends-then w b)
+quoted-by x y z p q a b c = rw (sym p, sym q) (appends-then (appends-then a b) c)
 
 -- ---- the caption
 
@@ -162,9 +157,7 @@ module _ {v v₁ v₂ : List Cell} {at x z : ℕ} (w : List ℕ) (p : Appends v 
 
 -- ---- the block
 
-pub block-by : {v v₁ v₂ v₃ : List Cell} {at at₁ at₂ at₃ : ℕ} (words : List ℕ) (x : List Cell) → Appends v at v₁ at₁ (feed ∷ feed ∷ quotedLines (lines (trim x))) → Appends v₁ at₁ v₂ at₂ (captionLine words)
-    → Appends v₂ at₂ v₃ at₃ (written (ascii "\n\n")) → Appends v at v₃ at₃ (quoteBlock words x)
+pub block-by : {v v₁ v₂ v₃ v₄ : List Cell} {at at₁ at₂ at₃ at₄ : ℕ} (words : List ℕ) (x : List Cell) → Appends v at v₁ at₁ (feed ∷ feed ∷ quotedLines (lines (trim x))) → Appends v₁ at₁ v₂ at₂ (captionLine words)
+    → Appends v₂ at₂ v₃ at₃ (feed ∷ []) → Appends v₃ at₃ v₄ at₄ (feed ∷ []) → Appends v at v₄ at₄ (quoteBlock words x)
 unfolding quoteBlock
-block-by {v} {v₁} {v₂} {v₃} {at} {at₁} {at₂} {at₃} words x p q r =
-    let w : Appends v₂ at₂ v₃ at₃ (feed ∷ feed ∷ []) = rw (sym feeds) r in
-    appends-then (appends-then p q) w
+block-by words x p q r s = appends-then (appends-then p q) (appends-then r s)

@@ -3,6 +3,7 @@ use crate::content::put_quoted;
 use attribution::caption::put_caption;
 use text::PostAt;
 use text::TextAt;
+use text::write::put_feed;
 use text::write::put_text;
 ghost use mathlib.Core.Path.{_≡_};
 ghost use Prim.Native.Nat.{_≤_};
@@ -58,5 +59,6 @@ pub fn quote_block<'a>(
 {
     let x = put_quoted(src, from, a, e, buf, nums, TextAt(0));
     let y = put_caption_line(attribution, joined, buf, nums, x);
-    put_text(b"\n\n", buf, nums, y)
+    let z = put_feed(buf, nums, y);
+    put_feed(buf, nums, z)
 }

@@ -6,8 +6,9 @@ use text::trim::line_end;
 use text::trim::trim_end;
 use text::trim::trim_start;
 use text::write::copy;
+use text::write::put;
 use text::write::put_feed;
-use text::write::put_text;
+use text::write::put_sign;
 ghost use mathlib.Core.List.{_∷_, map};
 ghost use Prim.Native.Nat.{_≤_};
 ghost use lib.ListN.{length};
@@ -29,11 +30,12 @@ fn put_line(
     requires { ⌜ (a .0 ≤ e .0) × ((e .0 ≤ length (now src)) × (e .0 ≤ length (now from))) ⌝ }
     ensures { λ r. ⌜ Appends (cells (now (buf .entry)) (now (nums .entry))) (at .0) (cells (now (buf .exit)) (now (nums .exit))) (r .0) (quotedLine (part (a .0) (e .0) (cells (now (src .entry)) (now (from .entry))))) ⌝ }
 {
+    let x = put_sign(buf, nums, at, b'>');
     if all_blank(src, from, a, e) {
-        return put_text(b">", buf, nums, at);
+        return x;
     }
-    let x = put_text(b"> ", buf, nums, at);
-    copy(src, from, a, e, buf, nums, x)
+    let y = put(buf, nums, x, b' ', 1);
+    copy(src, from, a, e, buf, nums, y)
 }
 
 // Appends the lines from a up to e, each behind a line feed.
@@ -83,7 +85,7 @@ fn put_lines(
         let x = put_line(src, from, a, j, buf, nums, at);
         return put_more_lines(src, from, PostAt(k + 1), e, buf, nums, x);
     }
-    put_text(b">", buf, nums, at)
+    put_sign(buf, nums, at, b'>')
 }
 
 // Appends LF LF and the trimmed content from a up to e with `> ` on each line.
@@ -99,7 +101,8 @@ pub fn put_quoted(
     requires { ⌜ (a .0 ≤ e .0) × ((e .0 ≤ length (now src)) × (e .0 ≤ length (now from))) ⌝ }
     ensures { λ r. ⌜ Appends (cells (now (buf .entry)) (now (nums .entry))) (at .0) (cells (now (buf .exit)) (now (nums .exit))) (r .0) (feed ∷ feed ∷ quotedLines (lines (trim (part (a .0) (e .0) (cells (now (src .entry)) (now (from .entry))))))) ⌝ }
 {
-    let x = put_text(b"\n\n", buf, nums, at);
+    let w = put_feed(buf, nums, at);
+    let x = put_feed(buf, nums, w);
     let y = trim_start(src, from, a, e);
     let z = trim_end(src, from, y, e);
     put_lines(src, from, y, z, buf, nums, x)

@@ -9,9 +9,9 @@ use Rattle.quote_blocks.proofs.block.quote_block.Statement.{statement}
 use Rattle.quote_blocks.proofs.block.quote_block.Tie as tie
 use Rattle.quote_blocks.proofs.block.quote_block.Reads as reads
 use Rattle.quote_blocks.proofs.block.quote_block.Lts as lts
-use Rattle.quote_blocks.proofs.content.put_quoted.Reads as put-quoted-reads
 use Rattle.quote_blocks.proofs.block.put_caption_line.Reads as put-caption-line-reads
-use Rattle.text.proofs.write.put_text.Reads as put-text-reads
+use Rattle.quote_blocks.proofs.content.put_quoted.Reads as put-quoted-reads
+use Rattle.text.proofs.write.put_feed.Reads as put-feed-reads
 
 put-quoted-requires : tie.Need-put-quoted-requires
 put-quoted-requires c κs = search needs
@@ -19,11 +19,11 @@ put-quoted-requires c κs = search needs
 put-caption-line-requires : tie.Need-put-caption-line-requires
 put-caption-line-requires c κs = search needs
 
-slice-aggregate-put-text : tie.Need-slice-aggregate-put-text
-slice-aggregate-put-text c = search needs
+put-feed-requires : tie.Need-put-feed-requires
+put-feed-requires c κs = search needs
 
-put-text-requires : tie.Need-put-text-requires
-put-text-requires c κs = search needs
+put-feed-requires-2 : tie.Need-put-feed-requires-2
+put-feed-requires-2 c κs = search needs
 
 same-length : tie.Need-same-length
 same-length c = search needs
@@ -32,7 +32,7 @@ same-length-2 : tie.Need-same-length-2
 same-length-2 c = search needs
 
 returns : tie.Need-returns
-returns c = search block-by
+returns c = block-by _ _ (c .before .before .before .before .before .before .before .before .before .before .before .before .before .before .before .before .before .before .before .before .before .before .before .before .before .put-quoted .ensures) (c .before .before .before .before .before .before .before .before .before .before .before .before .before .before .before .before .before .before .put-caption-line .ensures) (c .before .before .before .before .before .before .before .before .before .before .before .put-feed .ensures) (c .before .before .before .before .put-feed2 .ensures)
 
 pub quote-block-spec : {M : Type 1} → statement M
 quote-block-spec =
@@ -40,8 +40,8 @@ quote-block-spec =
     (tie.spec
     put-quoted-requires
     put-caption-line-requires
-    slice-aggregate-put-text
-    put-text-requires
+    put-feed-requires
+    put-feed-requires-2
     same-length
     same-length-2
     returns)

@@ -11,16 +11,14 @@ use Rattle.quote_blocks.proofs.content.put_line.Reads as reads
 use Rattle.quote_blocks.proofs.content.put_line.Lts as lts
 use Rattle.text.proofs.trim.all_blank.Reads as all-blank-reads
 use Rattle.text.proofs.write.copy.Reads as copy-reads
-use Rattle.text.proofs.write.put_text.Reads as put-text-reads
+use Rattle.text.proofs.write.put.Reads as put-reads
+use Rattle.text.proofs.write.put_sign.Reads as put-sign-reads
+
+put-sign-requires : tie.Need-put-sign-requires
+put-sign-requires c κs = search needs
 
 all-blank-requires : tie.Need-all-blank-requires
 all-blank-requires c κs = search needs
-
-slice-aggregate-put-text : tie.Need-slice-aggregate-put-text
-slice-aggregate-put-text c = search needs
-
-put-text-requires : tie.Need-put-text-requires
-put-text-requires c κs = search needs
 
 same-length : tie.Need-same-length
 same-length c = search needs
@@ -29,13 +27,10 @@ same-length-2 : tie.Need-same-length-2
 same-length-2 c = search needs
 
 returns : tie.Need-returns
-returns c = line-blank _ (c .before .before .before .before .put-text .ensures) (c .before .before .before .before .before .before .before .before .before .all-blank .ensures) (c .before .before .before .before .before .before .before .before .if1 .taken)
+returns c = line-blank _ (c .before .before .before .before .before .before .put-sign .ensures) (c .before .all-blank .ensures) (c .if1 .taken)
 
-slice-aggregate-put-text-2 : tie.Need-slice-aggregate-put-text-2
-slice-aggregate-put-text-2 c = search needs
-
-put-text-requires-2 : tie.Need-put-text-requires-2
-put-text-requires-2 c κs = search needs
+put-requires : tie.Need-put-requires
+put-requires c κs = search needs
 
 copy-requires : tie.Need-copy-requires
 copy-requires c κs = search needs
@@ -47,20 +42,18 @@ same-length-4 : tie.Need-same-length-4
 same-length-4 c = search needs
 
 returns-2 : tie.Need-returns-2
-returns-2 c = line-other _ (c .before .before .before .before .before .before .before .before .before .before .before .put-text2 .ensures) (c .before .before .before .before .copy .ensures) (c .before .before .before .before .before .before .before .before .before .before .before .before .before .before .before .before .all-blank .ensures) (c .before .before .before .before .before .before .before .before .before .before .before .before .before .before .before .if1 .left)
+returns-2 c = line-other _ (c .before .before .before .before .before .before .before .before .before .before .before .before .before .before .before .before .before .before .before .before .put-sign .ensures) (c .before .before .before .before .before .before .before .before .before .before .before .before .before .before .before .all-blank .ensures) (c .before .before .before .before .before .before .before .before .before .before .before .before .before .before .if1 .left) (c .before .before .before .before .before .before .before .before .before .before .before .put .ensures) (c .before .before .before .before .copy .ensures)
 
 pub put-line-spec : {M : Type 1} → statement M
 put-line-spec =
     tie.close
     (tie.spec
+    put-sign-requires
     all-blank-requires
-    slice-aggregate-put-text
-    put-text-requires
     same-length
     same-length-2
     returns
-    slice-aggregate-put-text-2
-    put-text-requires-2
+    put-requires
     copy-requires
     same-length-3
     same-length-4

@@ -12,7 +12,7 @@ use Rattle.quote_blocks.proofs.content.put_lines.Lts as lts
 use Rattle.quote_blocks.proofs.content.put_line.Reads as put-line-reads
 use Rattle.quote_blocks.proofs.content.put_more_lines.Reads as put-more-lines-reads
 use Rattle.text.proofs.trim.line_end.Reads as line-end-reads
-use Rattle.text.proofs.write.put_text.Reads as put-text-reads
+use Rattle.text.proofs.write.put_sign.Reads as put-sign-reads
 
 line-end-requires : tie.Need-line-end-requires
 line-end-requires c κs = search needs
@@ -20,8 +20,8 @@ line-end-requires c κs = search needs
 put-line-requires : tie.Need-put-line-requires
 put-line-requires c κs = search needs
 
-add-t19 : tie.Need-add-t19
-add-t19 c = search needs
+add-t18 : tie.Need-add-t18
+add-t18 c = search needs
 
 put-more-lines-requires : tie.Need-put-more-lines-requires
 put-more-lines-requires c κs = search needs
@@ -35,11 +35,8 @@ same-length-2 c = search needs
 returns : tie.Need-returns
 returns c = lines-first _ _ _ (c .before .before .before .before .before .before .before .before .before .before .before .before .before .before .line-end .ensures .1 .1) (c .before .before .before .before .before .before .before .before .before .before .before .put-line .ensures) (c .before .before .before .before .put-more-lines .ensures)
 
-slice-aggregate-put-text : tie.Need-slice-aggregate-put-text
-slice-aggregate-put-text c = search needs
-
-put-text-requires : tie.Need-put-text-requires
-put-text-requires c κs = search needs
+put-sign-requires : tie.Need-put-sign-requires
+put-sign-requires c κs = search needs
 
 same-length-3 : tie.Need-same-length-3
 same-length-3 c = search needs
@@ -48,7 +45,7 @@ same-length-4 : tie.Need-same-length-4
 same-length-4 c = search needs
 
 returns-2 : tie.Need-returns-2
-returns-2 c = lines-none _ _ _ (omega arith) (c .before .before .before .before .put-text .ensures)
+returns-2 c = lines-none _ _ _ (omega arith) (c .before .before .before .before .put-sign .ensures)
 
 pub put-lines-spec : {M : Type 1} → statement M
 put-lines-spec =
@@ -56,13 +53,12 @@ put-lines-spec =
     (tie.spec
     line-end-requires
     put-line-requires
-    add-t19
+    add-t18
     put-more-lines-requires
     same-length
     same-length-2
     returns
-    slice-aggregate-put-text
-    put-text-requires
+    put-sign-requires
     same-length-3
     same-length-4
     returns-2)
