@@ -109,29 +109,17 @@ fn first_in_16(s: &[u8], i: usize, b: u8) -> usize
     u32::trailing_zeros(digits_of_16(s, i, b)) as usize
 }
 
-// The place of a block of 16 with the byte b, or the one from which on to look for it one by one: none stands between.
-fn past_16s(s: &[u8], at: usize, b: u8) -> usize
-    requires { ⌜ at ≤ length (now s) ⌝ }
-    ensures { λ r. ⌜ ((r ≤ length (now (s .entry))) × (r + 16 ≤ length (now (s .entry)) → toFirst (λ x. eqb x b) (drop r (now (s .entry))) < 16)) × (r + toFirst (λ x. eqb x b) (drop r (now (s .entry))) ≡ at + toFirst (λ x. eqb x b) (drop at (now (s .entry)))) ⌝ }
-{
-    let mut i = at;
-    while 16 <= s.len() - i {
-        if stands_in_16(s, i, b) {
-            return i;
-        }
-        i += 16;
-    }
-    i
-}
-
 // The place of the first byte b from a place on, or the end.
 pub fn next_byte(s: &[u8], at: PostAt, b: u8) -> PostAt
     requires { ⌜ at .0 ≤ length (now s) ⌝ }
     ensures { λ r. ⌜ r .0 ≡ at .0 + toFirst (λ x. eqb x b) (drop (at .0) (now (s .entry))) ⌝ }
 {
-    let mut i = past_16s(s, at.0, b);
-    if 16 <= s.len() - i {
-        return PostAt(i + first_in_16(s, i, b));
+    let mut i = at.0;
+    while 16 <= s.len() - i {
+        if stands_in_16(s, i, b) {
+            return PostAt(i + first_in_16(s, i, b));
+        }
+        i += 16;
     }
     while i < s.len() {
         if s[i] == b {

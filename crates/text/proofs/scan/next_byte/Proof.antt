@@ -4,15 +4,17 @@ use mathlib.Core.Path.{_≡_, refl, sym, ap, _∙_}
 use Prim.Native.Nat.{ℕ, suc, _+_, _-_, _≤_, _<_}
 use mathlib.Core.List.{List, [], _∷_, _++_}
 use lib.ListN.{length, getD}
-use lib.Dec.{eqb}
-use borrow.Author.Tests.{eq-eqb, ne-eqb}
-use Rattle.text.proofs.Bytes.{Looks, look, look-here, look-on, look-end}
+use lib.ListN.{drop}
+use lib.Dec.{eqb, ltb}
+use Rattle.text.specs.Ascii.{toFirst}
+use borrow.Author.Tests.{eq-eqb, ne-eqb, ltb-true, ltb-false}
+use Rattle.text.proofs.Bytes.{Looks, look, look-here, look-on, look-past, look-end}
 use Rattle.text.proofs.scan.next_byte.Statement.{statement}
 use Rattle.text.proofs.scan.next_byte.Tie as tie
 use Rattle.text.proofs.scan.next_byte.Reads as reads
 use Rattle.text.proofs.scan.next_byte.Lts as lts
 use Rattle.text.proofs.scan.first_in_16.Reads as first-in-16-reads
-use Rattle.text.proofs.scan.past_16s.Reads as past-16s-reads
+use Rattle.text.proofs.scan.stands_in_16.Reads as stands-in-16-reads
 
 abbrev Inv-loop : tie.InvT-loop
 Inv-loop s b i₀ i = Looks (λ x. eqb x b) s i₀ i
@@ -20,43 +22,79 @@ Inv-loop s b i₀ i = Looks (λ x. eqb x b) s i₀ i
 abbrev μ-loop : tie.MeasureT-loop
 μ-loop s b i₀ i = length s - i
 
-past-16s-requires : tie.Need-past-16s-requires Inv-loop μ-loop
-past-16s-requires c κs = search needs
+abbrev Inv-loop2 : tie.InvT-loop2
+Inv-loop2 s b i₀ i = Looks (λ x. eqb x b) s i₀ i
 
-sub-if1 : tie.Need-sub-if1 Inv-loop μ-loop
-sub-if1 c = omega (arith, c .past-16s .ensures .0 .0)
+abbrev μ-loop2 : tie.MeasureT-loop2
+μ-loop2 s b i₀ i = length s - i
 
-first-in-16-requires : tie.Need-first-in-16-requires Inv-loop μ-loop
-first-in-16-requires c κs = let h = c .before .past-16s .ensures .0 in (omega (arith, c .if1 .taken), h .1 (omega (arith, c .if1 .taken)))
+-- src/scan.rt:118:5
+loop-holds : tie.Need-loop-holds Inv-loop μ-loop Inv-loop2 μ-loop2
+loop-holds c = look _ _ _ (c .before .pre)
 
-add-t9 : tie.Need-add-t9 Inv-loop μ-loop
-add-t9 c = let h = c .before .before .past-16s .ensures .0 .1 (omega arith) in omega (arith, h, c .first-in-16 .ensures)
+-- src/scan.rt:118:17
+sub-loop : tie.Need-sub-loop Inv-loop μ-loop Inv-loop2 μ-loop2
+sub-loop c = search needs
 
-returns : tie.Need-returns Inv-loop μ-loop
-returns c = let e = c .before .before .past-16s .ensures .1 in ap (λ (k : ℕ). c .before .before .past-16s .result + k) (c .first-in-16 .ensures) ∙ e
+-- src/scan.rt:119:12
+stands-in-16-requires : tie.Need-stands-in-16-requires Inv-loop μ-loop Inv-loop2 μ-loop2
+stands-in-16-requires c κs = search needs
 
-loop-holds : tie.Need-loop-holds Inv-loop μ-loop
-loop-holds c = look _ _ _ (c .before .past-16s .ensures .0 .0)
+-- src/scan.rt:120:31
+first-in-16-requires : tie.Need-first-in-16-requires Inv-loop μ-loop Inv-loop2 μ-loop2
+first-in-16-requires c κs = (omega arith, ltb-true _ 16 (sym (c .before .stands-in-16 .ensures) ∙ c .if1 .taken))
 
-shared-slice-read-if2 : tie.Need-shared-slice-read-if2 Inv-loop μ-loop
-shared-slice-read-if2 c = search needs
+-- src/scan.rt:120:27
+add-t10 : tie.Need-add-t10 Inv-loop μ-loop Inv-loop2 μ-loop2
+add-t10 c =
+    let l = c .before .before .before .before .loop in
+    let a = c .before .before .before .before .before .before .args in
+    let h = ltb-true (toFirst (λ x. eqb x (a .b)) (drop (l .i) (a .s .now))) 16 (sym (c .before .before .stands-in-16 .ensures) ∙ c .before .if1 .taken) in
+    omega (arith, h, c .first-in-16 .ensures)
 
-returns-2 : tie.Need-returns-2 Inv-loop μ-loop
-returns-2 c =
-    let l = c .before .before .before .loop in
-    look-here _ _ _ (l .i) (l .inv) (omega arith) (eq-eqb _ _ (c .if2 .taken)) ∙ c .before .before .before .before .before .past-16s .ensures .1
+-- src/scan.rt:120:13
+returns : tie.Need-returns Inv-loop μ-loop Inv-loop2 μ-loop2
+returns c = let l = c .before .before .before .before .loop in ap (λ (k : ℕ). l .i + k) (c .first-in-16 .ensures) ∙ l .inv .ends
 
-add-i : tie.Need-add-i Inv-loop μ-loop
+-- src/scan.rt:122:9
+add-i : tie.Need-add-i Inv-loop μ-loop Inv-loop2 μ-loop2
 add-i c = search needs
 
-loop-less : tie.Need-loop-less Inv-loop μ-loop
+-- src/scan.rt:118:5
+loop-less : tie.Need-loop-less Inv-loop μ-loop Inv-loop2 μ-loop2
 loop-less c = search needs
 
-loop-again : tie.Need-loop-again Inv-loop μ-loop
-loop-again c = let l = c .before .before .before .loop in look-on _ _ _ (l .i) (l .inv) (omega arith) (ne-eqb _ _ (c .if2 .left))
+-- src/scan.rt:118:5
+loop-again : tie.Need-loop-again Inv-loop μ-loop Inv-loop2 μ-loop2
+loop-again c = let l = c .before .before .before .loop in look-past _ _ _ (l .i) 16 (l .inv) (omega arith) (ltb-false _ 16 (sym (c .before .stands-in-16 .ensures) ∙ c .if1 .left))
 
-returns-3 : tie.Need-returns-3 Inv-loop μ-loop
-returns-3 c = let l = c .before .loop in look-end _ _ _ (l .i) (l .inv) (omega arith) ∙ c .before .before .before .past-16s .ensures .1
+-- src/scan.rt:124:5
+loop2-holds : tie.Need-loop2-holds Inv-loop μ-loop Inv-loop2 μ-loop2
+loop2-holds c = look _ _ _ (c .before .loop .inv .inside)
+
+-- src/scan.rt:125:12
+shared-slice-read-if2 : tie.Need-shared-slice-read-if2 Inv-loop μ-loop Inv-loop2 μ-loop2
+shared-slice-read-if2 c = search needs
+
+-- src/scan.rt:126:13
+returns-2 : tie.Need-returns-2 Inv-loop μ-loop Inv-loop2 μ-loop2
+returns-2 c = let l = c .before .before .before .loop2 in look-here _ _ _ (l .i) (l .inv) (omega arith) (eq-eqb _ _ (c .if2 .taken)) ∙ c .before .before .before .before .before .loop .inv .ends
+
+-- src/scan.rt:128:9
+add-i-2 : tie.Need-add-i-2 Inv-loop μ-loop Inv-loop2 μ-loop2
+add-i-2 c = search needs
+
+-- src/scan.rt:124:5
+loop2-less : tie.Need-loop2-less Inv-loop μ-loop Inv-loop2 μ-loop2
+loop2-less c = search needs
+
+-- src/scan.rt:124:5
+loop2-again : tie.Need-loop2-again Inv-loop μ-loop Inv-loop2 μ-loop2
+loop2-again c = let l = c .before .before .before .loop2 in look-on _ _ _ (l .i) (l .inv) (omega arith) (ne-eqb _ _ (c .if2 .left))
+
+-- src/scan.rt:113:1
+returns-3 : tie.Need-returns-3 Inv-loop μ-loop Inv-loop2 μ-loop2
+returns-3 c = let l = c .before .loop2 in look-end _ _ _ (l .i) (l .inv) (omega arith) ∙ c .before .before .before .loop .inv .ends
 
 pub next-byte-spec : {M : Type 1} → statement M
 next-byte-spec =
@@ -64,15 +102,21 @@ next-byte-spec =
     (tie.spec
     Inv-loop
     μ-loop
-    past-16s-requires
-    sub-if1
-    first-in-16-requires
-    add-t9
-    returns
+    Inv-loop2
+    μ-loop2
     loop-holds
-    shared-slice-read-if2
-    returns-2
+    sub-loop
+    stands-in-16-requires
+    first-in-16-requires
+    add-t10
+    returns
     add-i
     loop-less
     loop-again
+    loop2-holds
+    shared-slice-read-if2
+    returns-2
+    add-i-2
+    loop2-less
+    loop2-again
     returns-3)
