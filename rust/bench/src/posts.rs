@@ -182,5 +182,7 @@ pub const FAMILIES: &[Family] = &[
     family("lines of an item", "`[list][*]`, then lines of one letter", |n| cut(["[list=1][*]", &"a\n".repeat(n / 2)].concat(), n)),
     family("blanks", "`[list][*]`, then U+3000 again and again", |n| cut(["[list][*]", &"\u{3000}".repeat(n / 3)].concat(), n)),
     family("opening brackets", "`[` again and again", |n| again("[", n)),
+    family("letters q", "`q` again and again", |n| again("q", n)),
+    family("quote tags begun", "`[q[/q` again and again", |n| again("[q[/q", n)),
     family("line feeds in a quote", "`[quote]`, then line feeds, then `a`", |n| cut(["[quote]a", &"\n".repeat(n - 9), "a"].concat(), n)),
 ];

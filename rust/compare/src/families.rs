@@ -117,6 +117,8 @@ const REPEATED: &[(&str, &str, &str)] = &[
     ("[list][*]x", "\n", "y[/list]"),
     ("", "[c]x", "[/c]"),
     ("", "é", ""),
+    ("[quote]", "q", "[/quote]"),
+    ("[quote]", "[/q", "[/quote]"),
 ];
 
 /// `size` bytes at most: the start, the unit as often as there is room, the end.
