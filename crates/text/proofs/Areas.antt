@@ -2,11 +2,8 @@
 use mathlib.Core.Path.{_≡_, refl, sym, ap, _∙_}
 use Prim.Native.Nat.{ℕ, zero, suc, _+_, _-_, _≤_, _<_, min}
 use native.Mathlib.Omega.{arith}
-use mathlib.Core.Bool.{true}
 use mathlib.Core.List.{List, [], _∷_, _++_}
 use lib.ListN.{length, take, drop, getD, set, length-take, length-drop}
-use lib.Dec.{ltb}
-use borrow.Author.Tests.{ltb-true}
 use lib.Seq.{take-set-lt, drop-set-lt, getD-take, length-take-le, take-all, take-take, drop-drop}
 use Rattle.text.specs.Cells.{Cell, cell, cells, part}
 use Rattle.text.specs.Writes.{Appends, AppendsIn, Pasted}
@@ -25,9 +22,6 @@ appendsIn-then p q = record {
 }
 
 -- ---- room
-
-pub monus-none : (a b : ℕ) → a ≤ b → a - b ≡ 0
-monus-none a b h = omega arith
 
 whole : (bs ns : List ℕ) (end : ℕ) → end ≡ min (length bs) (length ns) → take end (cells bs ns) ≡ cells bs ns
 whole bs ns end e =
@@ -88,11 +82,10 @@ unfolding part
 part-size bs ns a e h b n = rw (length-drop a (take e (cells bs ns)), length-take-le e (cells bs ns) (cells-le bs ns e b n))
 
 pub part-over : {bs ns : List ℕ} {end : ℕ} (src from : List ℕ) (a e at : ℕ) → end ≤ length bs → end ≤ length ns → a ≤ e → e ≤ length src → e ≤ length from
-    → ltb (end - at) (e - a) ≡ true → end < 18446744073709551615 → at ≤ 18446744073709551615 → AppendsIn bs ns end at bs ns 18446744073709551615 (part a e (cells src from))
+    → end - at < e - a → end < 18446744073709551615 → at ≤ 18446744073709551615 → AppendsIn bs ns end at bs ns 18446744073709551615 (part a e (cells src from))
 part-over {bs} {ns} {end} src from a e at b n h s f over far up =
-    let l = ltb-true (end - at) (e - a) over in
     let z = part-size src from a e h s f in
-    appendsIn-over bs ns end b n at 18446744073709551615 (part a e (cells src from)) (omega (arith, l, z)) far up
+    appendsIn-over bs ns end b n at 18446744073709551615 (part a e (cells src from)) (omega (arith, over, z)) far up
 
 -- ---- runs that are copied in blocks
 

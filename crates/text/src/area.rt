@@ -6,47 +6,34 @@ use crate::block::blocks8;
 use crate::block::blocks32;
 use crate::block::within8;
 use crate::block::within32;
+use crate::shorter;
 ghost use mathlib.Core.Path.{_≡_};
 ghost use mathlib.Core.Bool.{true};
 ghost use Prim.Native.Nat.{_+_, _-_, _≤_};
 ghost use lib.ListN.{length};
-ghost use lib.Dec.{ltb};
 ghost use Rattle.text.specs.Cells.{cells, part};
 ghost use Rattle.text.specs.Writes.{AppendsIn};
 
 // The place past every slice's end.
 const FULL: usize = 0xffff_ffff_ffff_ffff;
 
-// Whether n cells are more than fit from a place on.
-fn overflows(n: usize, at: TextAt, end: usize) -> bool
-    ensures { λ r. ⌜ r ≡ ltb (end - at .0) n ⌝ }
+// How many cells fit from a place on.
+fn room_from(at: TextAt, end: usize) -> usize
+    ensures { λ r. ⌜ r ≡ end - at .0 ⌝ }
 {
     let i = at.0;
     if i < end {
-        return end - i < n;
+        return end - i;
     }
-    0 < n
+    0
 }
 
-// Whether n cells can be copied in blocks, where a and b are left to read behind them: 15 more can be read and written.
-fn fits_blocks(a: usize, b: usize, n: usize, at: TextAt, end: usize) -> bool
-    ensures { λ r. ⌜ (r ≡ true → (15 ≤ a) × ((15 ≤ b) × (at .0 + n + 15 ≤ end))) ⌝ }
+// Whether n of the cells that there is room for can be copied in blocks, where a and b are left to read behind them: 15 more can be read and written.
+fn fits_blocks(a: usize, b: usize, n: usize, room: usize) -> bool
+    requires { ⌜ n ≤ room ⌝ }
+    ensures { λ r. ⌜ (r ≡ true → (15 ≤ a) × ((15 ≤ b) × (n + 15 ≤ room))) ⌝ }
 {
-    let i = at.0;
-    if a < 15 {
-        return false;
-    }
-    if b < 15 {
-        return false;
-    }
-    if end < i {
-        return false;
-    }
-    let room = end - i;
-    if room < n {
-        return false;
-    }
-    15 <= room - n
+    15 <= shorter(shorter(a, b), room - n)
 }
 
 // Appends the cells of another pair of slices from a up to e.
@@ -65,11 +52,12 @@ pub fn copy_in(
 {
     let first = a.0;
     let last = e.0;
-    if overflows(last - first, at, end) {
+    let n = last - first;
+    let room = room_from(at, end);
+    if room < n {
         return TextAt(FULL);
     }
-    let n = last - first;
-    if fits_blocks(src.len() - last, from.len() - last, n, at, end) {
+    if fits_blocks(src.len() - last, from.len() - last, n, room) {
         blocks8(src, first, last, buf, at.0);
         blocks32(from, first, last, nums, at.0);
         return TextAt(at.0 + n);
@@ -99,12 +87,13 @@ pub fn copy_within(
 {
     let first = a.0;
     let last = e.0;
-    if overflows(last - first, at, end) {
+    let n = last - first;
+    let room = room_from(at, end);
+    if room < n {
         return TextAt(FULL);
     }
-    let n = last - first;
     let behind = at.0 - last;
-    if fits_blocks(behind, behind, n, at, end) {
+    if fits_blocks(behind, behind, n, room) {
         within8(buf, first, last, at.0);
         within32(nums, first, last, at.0);
         return TextAt(at.0 + n);

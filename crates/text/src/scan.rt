@@ -109,13 +109,25 @@ fn first_in_16(s: &[u8], i: usize, b: u8) -> usize
     u32::trailing_zeros(digits_of_16(s, i, b)) as usize
 }
 
+// The end of the places from i on that 16 of n bytes stand from, or i.
+fn blocks_end(i: usize, n: usize) -> usize
+    requires { ⌜ i ≤ n ⌝ }
+    ensures { λ r. ⌜ (i < r → r + 15 ≤ n) ⌝ }
+{
+    if n - i < 16 {
+        return i;
+    }
+    n - 15
+}
+
 // The place of the first byte b from a place on, or the end.
 pub fn next_byte(s: &[u8], at: PostAt, b: u8) -> PostAt
     requires { ⌜ at .0 ≤ length (now s) ⌝ }
     ensures { λ r. ⌜ r .0 ≡ at .0 + toFirst (λ x. eqb x b) (drop (at .0) (now (s .entry))) ⌝ }
 {
     let mut i = at.0;
-    while 16 <= s.len() - i {
+    let e = blocks_end(i, s.len());
+    while i < e {
         if stands_in_16(s, i, b) {
             return PostAt(i + first_in_16(s, i, b));
         }
