@@ -1,4 +1,4 @@
--- Laws of reading a text without its backslashes. Assumes nothing.
+-- Laws of reading a text without its backslashes, and of comparing two texts without them and with them. Assumes nothing.
 use mathlib.Core.Path.{_≡_, refl, sym, ap, _∙_}
 use Prim.Native.Nat.{ℕ, suc, _+_, _≤_, _<_}
 use native.Mathlib.Omega.{arith}
@@ -53,24 +53,28 @@ pub record Counting (s : List ℕ) (n i : ℕ) : Type 0 where
   pub count : n + length (bare (drop i s)) ≡ length (bare s)
   pub few : n ≤ i
   pub inside : i ≤ length s
-  pub stops : i < length s → is "\\" (getD s i 0) ≡ false
 
-pub counting : (s : List ℕ) {i : ℕ} → PastBackslashes s 0 i → Counting s 0 i
-counting s p = let e = ap length (p .same) in record { count = omega (arith, e); few = omega arith; inside = p .inside; stops = p .stops }
+pub counting : (s : List ℕ) → Counting s 0 0
+counting s = record { count = omega arith; few = omega arith; inside = omega arith }
 
-module _ (s : List ℕ) (n i : ℕ) (w : Counting s n i) where
-  pub counting-on : {r : ℕ} → i < length s → PastBackslashes s (i + 1) r → Counting s (n + 1) r
-  counting-on {r} lt p =
-      let e : length (bare (drop i s)) ≡ suc (length (bare (drop (i + 1) s))) = ap length (bare-on s i lt (w .stops lt)) in
-      let d : length (bare (drop r s)) ≡ length (bare (drop (i + 1) s)) = ap length (p .same) in
-      record { count = omega (arith, e, d, w .count); few = omega (arith, w .few, p .later); inside = p .inside; stops = p .stops }
+module _ (s : List ℕ) (k i : ℕ) (w : Counting s k i) where
+  module _ (lt : i < length s) where
+    pub counting-on : (getD s i 0 ≡ 92 → ⊥) → Counting s (k + 1) (i + 1)
+    counting-on n =
+        let e : length (bare (drop i s)) ≡ suc (length (bare (drop (i + 1) s))) = ap length (bare-on s i lt (ne-eqb (getD s i 0) 92 n)) in
+        record { count = omega (arith, e, w .count); few = omega (arith, w .few); inside = omega arith }
 
-  pub counting-end : length s ≤ i → (n ≡ length (bare s)) × (n ≤ length s)
+    pub counting-over : getD s i 0 ≡ 92 → Counting s k (i + 1)
+    counting-over e =
+        let d : length (bare (drop i s)) ≡ length (bare (drop (i + 1) s)) = ap length (bare-over s i lt (eq-eqb (getD s i 0) 92 e)) in
+        record { count = omega (arith, d, w .count); few = omega (arith, w .few); inside = omega arith }
+
+  pub counting-end : length s ≤ i → (k ≡ length (bare s)) × (k ≤ length s)
   counting-end le =
       let e : length (bare (drop i s)) ≡ 0 = ap length (bare-end s i le) in
       (omega (arith, e, w .count), omega (arith, w .few, w .inside))
 
--- ---- comparing
+-- ---- comparing without backslashes
 
 pub record Comparing (s a : List ℕ) (i j : ℕ) : Type 0 where
   pub whole : same (bare (drop i s)) (bare (drop j a)) ≡ same (bare s) (bare a)
@@ -130,3 +134,25 @@ other-length x y n = by (same x y) refl
     by : (t : Bool) → same x y ≡ t → false ≡ same x y
     by true e = absurd (n (same-long x y e))
     by false e = sym e
+
+-- a text is the same as itself
+pub same-self : (x : List ℕ) → true ≡ same x x
+unfolding same
+same-self [] = refl
+same-self (a ∷ x) = same-self x ∙ sym (rw (eq-eqb a a refl))
+
+-- ---- comparing with them
+
+-- the texts are equal if they are so from place i on
+pub record Equating (s a : List ℕ) (i : ℕ) : Type 0 where
+  pub whole : drop i s ≡ drop i a → s ≡ a
+
+pub equating : (s a : List ℕ) → Equating s a 0
+equating s a = record { whole = λ d. d }
+
+module _ (s a : List ℕ) (i : ℕ) (w : Equating s a i) where
+  pub equating-on : i < length s → i < length a → getD s i 0 ≡ getD a i 0 → Equating s a (i + 1)
+  equating-on lt lo e = record { whole = λ d. w .whole (rw (drop-cons s i 0 lt, drop-cons a i 0 lo, e, ← add-one, d)) }
+
+  pub equating-end : length s ≤ i → length a ≤ i → s ≡ a
+  equating-end le ge = w .whole (drop-of-length-le s {i = i} le ∙ sym (drop-of-length-le a {i = i} ge))

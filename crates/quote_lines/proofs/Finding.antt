@@ -31,16 +31,16 @@ module _ (ts : List Tag) (next : ℕ) (a : List ℕ) where
   find-turn i lt = rw (add-one, drop-cons ts i noTag lt)
 
   module _ (i : ℕ) (w : Finding ts next a i) where
-    module _ (lt : i < length ts) {t : Bool} (e : t ≡ same (bare (getD ts i noTag .attribution)) (bare a)) where
+    module _ (lt : i < length ts) {words : List ℕ} (r : words ≡ getD ts i noTag .attribution) {t : Bool} (e : t ≡ same (bare words) (bare a)) where
       pub finding-on : t ≡ false → Finding ts next a (i + 1)
       finding-on p =
-          let z : find a (drop i ts) ≡ suc (find a (drop (i + 1) ts)) = find-turn i lt ∙ rw (sym e ∙ p) in
+          let z : find a (drop i ts) ≡ suc (find a (drop (i + 1) ts)) = find-turn i lt ∙ rw (← r, sym e ∙ p) in
           record { later = omega (arith, w .later); ends = omega (arith, z, w .ends) }
 
       pub found : {line : ℕ} → t ≡ true → line ≡ getD ts i noTag .line → Gives ts next a line (i + 1)
       unfolding place nextAfter lineAt
       found {line} p l =
-          let z : find a (drop i ts) ≡ 0 = find-turn i lt ∙ rw (sym e ∙ p) in
+          let z : find a (drop i ts) ≡ 0 = find-turn i lt ∙ rw (← r, sym e ∙ p) in
           let y : next + find a (drop next ts) ≡ i = omega (arith, z, w .ends) in
           (rw (y, lt-ltb i (length ts) lt) l, rw (y, lt-ltb i (length ts) lt))
 

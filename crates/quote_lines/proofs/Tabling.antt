@@ -222,6 +222,15 @@ tag-kept s ns ns' q p line words e h w =
       words-are = rw (b, c) (w .words-are);
     }
 
+-- the attribution of the tag at p, cut out of the text
+module _ (s ns : List ℕ) (p : ℕ) where
+  abbrev from : ℕ
+  from = getD ns (p + 1) 0
+
+  pub words-cut : take (from + getD ns (p + 2) 0 - from) (drop from s) ≡ wordsAt s ns p
+  unfolding wordsAt
+  words-cut = let q : from + getD ns (p + 2) 0 - from ≡ getD ns (p + 2) 0 = omega arith in rw q
+
 -- the four numbers of a tag, written at p
 module _ (s ns : List ℕ) (p line a size short : ℕ) (h : a + size ≤ length s) (g : p + 4 ≤ length ns) (e : short ≡ length (bare (take size (drop a s)))) where
   abbrev ns₁ : List ℕ

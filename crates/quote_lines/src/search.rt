@@ -9,7 +9,7 @@ use text::scan::next_bracket;
 use text::shorter;
 use text::source::set_source;
 ghost use mathlib.Core.Path.{_≡_};
-ghost use mathlib.Core.Bool.{cond};
+ghost use mathlib.Core.Bool.{true, cond};
 ghost use Prim.Native.Nat.{ℕ, _+_, _-_, _*_, _≤_, _<_};
 ghost use lib.ListN.{length, take, drop};
 ghost use Rattle.text.specs.Ascii.{toBracket};
@@ -51,10 +51,12 @@ fn bare_length(s: &[u8]) -> usize
     ensures { λ r. ⌜ (r ≡ length (bare (now (s .entry)))) × (r ≤ length (now (s .entry))) ⌝ }
 {
     let mut n: usize = 0;
-    let mut i = past_backslashes(s, 0);
+    let mut i: usize = 0;
     while i < s.len() {
-        n += 1;
-        i = past_backslashes(s, i + 1);
+        if s[i] != b'\\' {
+            n += 1;
+        }
+        i += 1;
     }
     n
 }
@@ -77,6 +79,23 @@ fn same_bare(s: &[u8], a: &[u8]) -> bool
     }
     if j < a.len() {
         return false;
+    }
+    true
+}
+
+// Whether two texts are the same, with their backslashes.
+fn same_text(s: &[u8], a: &[u8]) -> bool
+    ensures { λ r. ⌜ (r ≡ true → now (s .entry) ≡ now (a .entry)) ⌝ }
+{
+    if s.len() != a.len() {
+        return false;
+    }
+    let mut i: usize = 0;
+    while i < s.len() {
+        if s[i] != a[i] {
+            return false;
+        }
+        i += 1;
     }
     true
 }
@@ -284,6 +303,16 @@ fn has_attribution(s: &[u8], numbers: &[u32], p: usize, attribution: &[u8], size
     same_bare(&s[a..e], attribution)
 }
 
+// Whether the tag at p has just this attribution, with its backslashes.
+fn has_words(s: &[u8], numbers: &[u32], p: usize, attribution: &[u8]) -> bool
+    requires { ⌜ (p + 4 ≤ length (now numbers)) × WordsAt (now s) (now numbers) p ⌝ }
+    ensures { λ r. ⌜ (r ≡ true → wordsAt (now (s .entry)) (now (numbers .entry)) p ≡ now (attribution .entry)) ⌝ }
+{
+    let a = numbers[p + 1] as usize;
+    let e = a + numbers[p + 2] as usize;
+    same_text(&s[a..e], attribution)
+}
+
 // The line of tag `next`, at most the last; 1 if there are no tags.
 fn line_at(numbers: &[u32], t: usize, count: usize, next: usize) -> u32
     requires { ⌜ t + 4 * count ≤ length (now numbers) ⌝ }
@@ -310,6 +339,15 @@ pub fn line_of(
     requires { ⌜ Table (now s) (now numbers) t count ⌝ }
     ensures { λ r. ⌜ (r .line ≡ lineAt (tags 1 0 (now (s .entry))) (place (tags 1 0 (now (s .entry))) next (now (attribution .entry)))) × (r .next ≡ nextAfter (tags 1 0 (now (s .entry))) next (now (attribution .entry))) ⌝ }
 {
+    // Nearly every quote has just the attribution of tag `next`.
+    if next < count {
+        if has_words(s, numbers, t + 4 * next, attribution) {
+            return Found {
+                line: numbers[t + 4 * next],
+                next: next + 1,
+            };
+        }
+    }
     let size = bare_length(attribution);
     let mut i = next;
     while i < count {

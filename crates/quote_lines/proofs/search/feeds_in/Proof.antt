@@ -17,35 +17,27 @@ Inv-loop s a e i₀ feeds₀ i feeds = (line : ℕ) → Behind s a e line i feed
 abbrev μ-loop : tie.MeasureT-loop
 μ-loop s a e i₀ feeds₀ i feeds = e - i
 
--- src/search.rt:101:5
 loop-holds : tie.Need-loop-holds Inv-loop μ-loop
 loop-holds c = λ line. behind _ _ _ _ (c .before .pre .0)
 
--- src/search.rt:102:26
 shared-slice-read-byte-if : tie.Need-shared-slice-read-byte-if Inv-loop μ-loop
 shared-slice-read-byte-if c = search needs
 
--- src/search.rt:102:18
 byte-if-requires : tie.Need-byte-if-requires Inv-loop μ-loop
 byte-if-requires c κs = search needs
 
--- src/search.rt:102:9
 add-feeds : tie.Need-add-feeds Inv-loop μ-loop
 add-feeds c = let w = c .before .before .before .loop .inv 0 in omega (arith, w .most, w .inside, w .order, c .before .before .before .before .before .pre .1 .1, c .byte-if .ensures .1)
 
--- src/search.rt:103:9
 add-i : tie.Need-add-i Inv-loop μ-loop
 add-i c = search needs
 
--- src/search.rt:101:5
 loop-less : tie.Need-loop-less Inv-loop μ-loop
 loop-less c = search needs
 
--- src/search.rt:101:5
 loop-again : tie.Need-loop-again Inv-loop μ-loop
 loop-again c = λ line. behind-byte (c .before .before .before .loop .inv line) (omega arith) (c .before .before .before .before .before .pre .1 .0) (c .byte-if .ensures .0)
 
--- src/search.rt:95:1
 returns : tie.Need-returns Inv-loop μ-loop
 returns c =
     let l = c .before .loop in

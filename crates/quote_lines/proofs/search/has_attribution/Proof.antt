@@ -4,9 +4,8 @@ use mathlib.Core.Path.{_≡_, refl, sym, ap, _∙_}
 use Prim.Native.Nat.{ℕ, suc, _+_, _-_, _≤_, _<_}
 use mathlib.Core.List.{List, [], _∷_, _++_}
 use lib.ListN.{length, getD}
-use lib.ListN.{take, drop}
 use Rattle.quote_lines.proofs.Bared.{other-length}
-use Rattle.quote_lines.specs.Tables.{wordsAt}
+use Rattle.quote_lines.proofs.Tabling.{words-cut}
 use Rattle.quote_lines.specs.Lines.{bare, same}
 use Rattle.quote_lines.proofs.search.has_attribution.Statement.{statement}
 use Rattle.quote_lines.proofs.search.has_attribution.Tie as tie
@@ -69,8 +68,9 @@ same-bare-requires : tie.Need-same-bare-requires
 same-bare-requires c κs = search needs
 
 returns-2 : tie.Need-returns-2
-unfolding wordsAt
-returns-2 c = let a = c .before .before .before .before .before .before .before .before .before in let q : getD (a .args .numbers .now) (a .args .p + 1) 0 + getD (a .args .numbers .now) (a .args .p + 2) 0 - getD (a .args .numbers .now) (a .args .p + 1) 0 ≡ getD (a .args .numbers .now) (a .args .p + 2) 0 = omega arith in c .same-bare .ensures ∙ ap (λ (y : ℕ). same (bare (take y (drop (getD (a .args .numbers .now) (a .args .p + 1) 0) (a .args .s .now)))) (bare (a .args .attribution .now))) q
+returns-2 c =
+    let a = c .before .before .before .before .before .before .before .before .before .args in
+    c .same-bare .ensures ∙ ap (λ (x : List ℕ). same (bare x) (bare (a .attribution .now))) (words-cut (a .s .now) (a .numbers .now) (a .p))
 
 pub has-attribution-spec : {M : Type 1} → statement M
 has-attribution-spec =

@@ -18,47 +18,36 @@ Inv-loop s a e line i₀ feeds₀ i feeds = Behind s a e line i feeds
 abbrev μ-loop : tie.MeasureT-loop
 μ-loop s a e line i₀ feeds₀ i feeds = e - i
 
--- src/search.rt:115:5
 loop-holds : tie.Need-loop-holds Inv-loop μ-loop
 loop-holds c = behind _ _ _ _ (c .before .pre .0)
 
--- src/search.rt:116:37
 sub-shorter : tie.Need-sub-shorter Inv-loop μ-loop
 sub-shorter c = search needs
 
--- src/search.rt:116:24
 shorter-requires : tie.Need-shorter-requires Inv-loop μ-loop
 shorter-requires c κs = search needs
 
--- src/search.rt:116:20
 add-next : tie.Need-add-next Inv-loop μ-loop
 add-next c = search needs
 
--- src/search.rt:117:18
 feeds-in-requires : tie.Need-feeds-in-requires Inv-loop μ-loop
 feeds-in-requires c κs = search needs
 
--- src/search.rt:117:18
 cast-feeds : tie.Need-cast-feeds Inv-loop μ-loop
 cast-feeds c = search needs
 
--- src/search.rt:117:9
 add-feeds : tie.Need-add-feeds Inv-loop μ-loop
 add-feeds c = search needs
 
--- src/search.rt:115:5
 loop-less : tie.Need-loop-less Inv-loop μ-loop
 loop-less c = search needs
 
--- src/search.rt:115:5
 loop-again : tie.Need-loop-again Inv-loop μ-loop
 loop-again c = behind-run (c .before .before .before .loop .inv) (omega arith) (omega (arith, c .before .shorter .ensures, c .before .before .loop-test .taken)) (c .feeds-in .ensures)
 
--- src/search.rt:120:5
 add-result : tie.Need-add-result Inv-loop μ-loop
 add-result c = search needs
 
--- src/search.rt:109:1
 returns : tie.Need-returns Inv-loop μ-loop
 returns c = behind-end (c .before .loop .inv) (omega arith)
 

@@ -14,24 +14,19 @@ use Rattle.quote_tags.proofs.tag.bracket_from.Reads as bracket-from-reads
 use Rattle.quote_tags.proofs.tag.opens_quote.Reads as opens-quote-reads
 use Rattle.quote_tags.proofs.tag.up_to_bracket.Reads as up-to-bracket-reads
 
--- src/search.rt:142:8
 opens-quote-requires : tie.Need-opens-quote-requires
 opens-quote-requires c κs = search needs
 
--- src/search.rt:143:13
 bracket-from-requires : tie.Need-bracket-from-requires
 bracket-from-requires c κs = search needs
 
--- src/search.rt:144:13
 up-to-bracket-requires : tie.Need-up-to-bracket-requires
 up-to-bracket-requires c κs = search needs
 
--- src/search.rt:145:9
 returns : tie.Need-returns
 unfolding openerSize
 returns c = let b = c .before .bracket-from .ensures in ((refl, tag-is _ _ (sym (c .before .before .before .opens-quote .ensures) ∙ c .before .before .if1 .taken) (c .up-to-bracket .ensures)), (λ _. b, λ _. b))
 
--- src/search.rt:138:1
 returns-2 : tie.Need-returns-2
 unfolding openerSize
 returns-2 c = ((refl, tag-not _ _ (sym (c .before .opens-quote .ensures) ∙ c .if1 .left)), (c .before .before .before .pre .1, λ n. absurd (n refl)))
