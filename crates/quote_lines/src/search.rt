@@ -339,7 +339,7 @@ pub fn line_of(
     requires { ⌜ Table (now s) (now numbers) t count ⌝ }
     ensures { λ r. ⌜ (r .line ≡ lineAt (tags 1 0 (now (s .entry))) (place (tags 1 0 (now (s .entry))) next (now (attribution .entry)))) × (r .next ≡ nextAfter (tags 1 0 (now (s .entry))) next (now (attribution .entry))) ⌝ }
 {
-    // Nearly every quote has just the attribution of tag `next`.
+    // A quote that marks left as it was has just the attribution of tag `next`.
     if next < count {
         if has_words(s, numbers, t + 4 * next, attribution) {
             return Found {
