@@ -6,7 +6,7 @@ use native.Mathlib.Numerals.{add-one}
 use mathlib.Core.List.{List, [], _∷_, _++_, append-assoc, append-nil}
 use lib.ListN.{length, take, drop, getD, set, length-set, length-drop}
 use lib.Seq.{take-add, take-suc, take-suc-set, drop-set-lt, drop-drop, getD-drop, length-take-le}
-use Rattle.quote_tags.specs.Masks.{Mask, region, masked, NoMask, MovedDown, KnownCloser}
+use Rattle.quote_tags.specs.Masks.{Mask, region, masked, MovedDown, KnownCloser}
 use Rattle.quote_tags.proofs.Tagging.{part-before}
 use Rattle.quote_tags.proofs.Plain.{bracket-past}
 use Rattle.quote_tags.proofs.Masking.{Masking, unread, first-of}
@@ -74,8 +74,8 @@ run-kept m zero k x f = masked-run m k x (λ j h. f j h .1)
 run-kept m (suc left) zero x f = refl
 run-kept m (suc left) (suc k) x f = absurd (omega (arith, f 0 (omega arith) .0))
 
-module _ {m : Mask} {s : List ℕ} {n : ℕ} {buf : List ℕ} {i to left b f q : ℕ} (w : Masking m s n buf i to left b f q) (o : (x : List ℕ) → NoMask x → region m x ≡ 0) (le : n ≤ length s) {p : ℕ}
-    (e : ((i ≤ p) × (p ≤ length (take n buf))) × ((j : ℕ) → i ≤ j → j < p → (left ≡ 0) × NoMask (drop j (take n buf)))) where
+module _ {P : List ℕ → Type 0} {m : Mask} {s : List ℕ} {n : ℕ} {buf : List ℕ} {i to left b f q : ℕ} (w : Masking m s n buf i to left b f q) (o : (x : List ℕ) → P x → region m x ≡ 0) (le : n ≤ length s) {p : ℕ}
+    (e : ((i ≤ p) × (p ≤ length (take n buf))) × ((j : ℕ) → i ≤ j → j < p → (left ≡ 0) × P (drop j (take n buf)))) where
   steps : (j : ℕ) → j < p - i → (left ≡ 0) × (region m (drop j (drop i (take n s))) ≡ 0)
   steps j h =
       let r = e .1 (i + j) (omega arith) (omega arith) in

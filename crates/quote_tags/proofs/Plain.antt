@@ -12,7 +12,7 @@ use borrow.Author.Tests.{eq-eqb, ne-eqb, eqb-true, eqb-false}
 use Rattle.text.specs.Ascii.{ascii, is, inside, small, begins, toFirst, toBracket}
 use Rattle.text.proofs.Bytes.{inside-true, look, look-past}
 use Rattle.quote_tags.specs.Tags.{NextBracket, beginsAny, openers, closers, openerSize, closerSize, NoTag, NoQ}
-use Rattle.quote_tags.proofs.Places.{Between, between-then}
+use Rattle.quote_tags.proofs.Places.{Between, between-then, Run}
 use Rattle.quote_tags.proofs.Tagging.{tag-not}
 
 -- ---- another byte
@@ -150,7 +150,7 @@ run-past s {a} {i} {r} {j} {k} f g h t = between-then P a i k f (between-then P 
 
 -- what `next_tag` says of it
 abbrev pub PlainRun : (s : List ℕ) (i q : ℕ) → Type 0
-PlainRun s i q = ((i ≤ q) × (q ≤ length s)) × Between (λ j. NoTag (drop j s)) i q
+PlainRun s i q = Run NoTag s i q
 
 -- the next `]` of a place is that of a later one before it
 pub bracket-past : (s : List ℕ) (i q : ℕ) {b : ℕ} → i ≤ q → q ≤ length s → NextBracket s i b → NextBracket s q b

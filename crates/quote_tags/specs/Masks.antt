@@ -6,15 +6,17 @@
 --   region m s          how many bytes the masked region has that s begins with; 0 for none
 --   blanked b           a byte of a region: a line feed stays, a character's first byte becomes a space, its others go
 --   NoMask s            s begins with no masked region
+--   NoOpener a b s      s does not begin with `[` and the letter a as second or b as third byte, in either case: the bit 32 is set to compare
 --   masked m left s     s masked by m, where the first `left` bytes are the rest of a region
 --   visible s           s masked by code, then by c and icode, then by noparse
 -- Assumes nothing.
 use mathlib.Core.Path.{_≡_}
 use Prim.Native.Nat.{ℕ, zero, suc, _+_, _-_, _≤_}
-use mathlib.Core.Bool.{cond, _&&_}
+use mathlib.Core.Bool.{false, cond, _&&_, _||_}
 use mathlib.Core.List.{List, [], _∷_, _++_}
-use lib.ListN.{take, drop}
-use lib.Dec.{ltb}
+use lib.Bits.{bitOr}
+use lib.ListN.{take, drop, getD}
+use lib.Dec.{eqb, ltb}
 use Rattle.text.specs.Ascii.{ascii, is, inside}
 use Rattle.quote_tags.specs.Tags.{beginsAny, tagSize}
 
@@ -46,6 +48,9 @@ region m s =
 
 abbrev pub NoMask : List ℕ → Type 0
 NoMask s = (region code s ≡ 0) × (region icode s ≡ 0) × (region noparse s ≡ 0)
+
+unfoldable pub NoOpener : (a b : ℕ) → List ℕ → Type 0
+NoOpener a b s = (is "[" (getD s 0 0) && (eqb (bitOr (getD s 1 0) 32) a || eqb (bitOr (getD s 2 0) 32) b)) ≡ false
 
 abbrev pub blanked : ℕ → List ℕ
 blanked b = cond (is "\n" b) (b ∷ []) (cond (inside 0x80 0xBF b) [] (32 ∷ []))

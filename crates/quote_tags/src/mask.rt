@@ -16,7 +16,7 @@ ghost use lib.ListN.{length, take, drop, getD};
 ghost use lib.Dec.{ltb};
 ghost use Rattle.text.specs.Ascii.{toBracket};
 ghost use Rattle.quote_tags.specs.Tags.{NextBracket, beginsAny, tagSize};
-ghost use Rattle.quote_tags.specs.Masks.{toCloser, region, shown, Masked, MovedDown, KnownCloser, visible, NoMask};
+ghost use Rattle.quote_tags.specs.Masks.{toCloser, region, shown, Masked, MovedDown, KnownCloser, visible, NoMask, NoOpener};
 
 // Whether the text from a place on begins with one of two words.
 fn begins_either(s: &[u8], at: PostAt, first: &[u8], second: &[u8]) -> bool
@@ -233,15 +233,67 @@ fn next_mask(s: &[u8], at: PostAt) -> PostAt
     PostAt(i)
 }
 
-// The end of a run that no region begins in: the next place where one may, and within a region the place itself.
-fn run_end(s: &[u8], at: PostAt, left: usize) -> PostAt
+// Whether a word that opens one of the masks may begin with these bytes: `[`, then its letter as second or as third byte, in either case. (No
+// byte is 0 with its bit 0x20 set: 0 stands for no letter.)
+fn may_open_by(a: u8, b: u8, c: u8, letter2: u8, letter3: u8) -> bool
+    ensures { λ r. ⌜ (r ≡ false → (x : List ℕ) → getD x 0 0 ≡ a → getD x 1 0 ≡ b → getD x 2 0 ≡ c → NoOpener letter2 letter3 x) ⌝ }
+{
+    (a == b'[') & ((b | 0x20 == letter2) | (c | 0x20 == letter3))
+}
+
+// Whether a word by these letters may begin among the 32 bytes from i on.
+fn opener_in_32(s: &[u8], i: usize, letter2: u8, letter3: u8) -> bool
+    requires { ⌜ i + 34 ≤ length (now s) ⌝ }
+    ensures { λ r. ⌜ (r ≡ false → (j : ℕ) → i ≤ j → j < i + 32 → NoOpener letter2 letter3 (drop j (now (s .entry)))) ⌝ }
+{
+    let mut stands = false;
+    let mut k: usize = 0;
+    while k < 32 {
+        stands = stands | may_open_by(s[i + k], s[i + k + 1], s[i + k + 2], letter2, letter3);
+        k += 1;
+    }
+    stands
+}
+
+// The place from which on to look for a word by these letters one by one: none begins between.
+fn past_32s(s: &[u8], at: usize, letter2: u8, letter3: u8) -> usize
+    requires { ⌜ at ≤ length (now s) ⌝ }
+    ensures { λ r. ⌜ ((at ≤ r) × (r ≤ length (now (s .entry)))) × ((j : ℕ) → at ≤ j → j < r → NoOpener letter2 letter3 (drop j (now (s .entry)))) ⌝ }
+{
+    let mut i = at;
+    while 34 <= s.len() - i {
+        if opener_in_32(s, i, letter2, letter3) {
+            return i;
+        }
+        i += 32;
+    }
+    i
+}
+
+// The first place from a place on where a word by these letters may begin, or the end.
+fn next_opener(s: &[u8], at: PostAt, letter2: u8, letter3: u8) -> PostAt
     requires { ⌜ at .0 ≤ length (now s) ⌝ }
-    ensures { λ r. ⌜ ((at .0 ≤ r .0) × (r .0 ≤ length (now (s .entry)))) × ((j : ℕ) → at .0 ≤ j → j < r .0 → (left ≡ 0) × NoMask (drop j (now (s .entry)))) ⌝ }
+    ensures { λ r. ⌜ ((at .0 ≤ r .0) × (r .0 ≤ length (now (s .entry)))) × ((j : ℕ) → at .0 ≤ j → j < r .0 → NoOpener letter2 letter3 (drop j (now (s .entry)))) ⌝ }
+{
+    let mut i = past_32s(s, at.0, letter2, letter3);
+    while i < s.len() {
+        if may_open_by(s[i], byte_at(s, i + 1), byte_at(s, i + 2), letter2, letter3) {
+            return PostAt(i);
+        }
+        i += 1;
+    }
+    PostAt(i)
+}
+
+// The end of a run that no region begins in: the next place where one may, and within a region the place itself.
+fn run_end(s: &[u8], at: PostAt, left: usize, letter2: u8, letter3: u8) -> PostAt
+    requires { ⌜ at .0 ≤ length (now s) ⌝ }
+    ensures { λ r. ⌜ ((at .0 ≤ r .0) × (r .0 ≤ length (now (s .entry)))) × ((j : ℕ) → at .0 ≤ j → j < r .0 → (left ≡ 0) × NoOpener letter2 letter3 (drop j (now (s .entry)))) ⌝ }
 {
     if 0 < left {
         return at;
     }
-    next_mask(s, at)
+    next_opener(s, at, letter2, letter3)
 }
 
 // Moves the bytes from a up to e down to a place before them, and returns the place behind them.
@@ -271,16 +323,19 @@ fn one_less(left: usize) -> usize
     left - 1
 }
 
-// Masks the first n bytes by one of the three masks: openers and closers are one of two words each. Returns how many bytes are left.
+// Masks the first n bytes by one of the three masks: openers and closers are one of two words each, and openers are looked for by the letters.
+// Returns how many bytes are left.
 fn mask(
     buf: &mut [u8],
     n: usize,
+    letter2: u8,
+    letter3: u8,
     opener: &[u8],
     opener2: &[u8],
     first: &[u8],
     second: &[u8],
 ) -> usize
-    requires { ⌜ (n ≤ length (now buf)) × ((x : List ℕ) → NoMask x → region (record { opens = now opener ∷ now opener2 ∷ []; closes = now first ∷ now second ∷ [] }) x ≡ 0) ⌝ }
+    requires { ⌜ (n ≤ length (now buf)) × ((x : List ℕ) → NoOpener letter2 letter3 x → region (record { opens = now opener ∷ now opener2 ∷ []; closes = now first ∷ now second ∷ [] }) x ≡ 0) ⌝ }
     ensures { λ r. ⌜ Masked (record { opens = now (opener .entry) ∷ now (opener2 .entry) ∷ []; closes = now (first .entry) ∷ now (second .entry) ∷ [] }) n (now (buf .entry)) r (now (buf .exit)) ⌝ }
 {
     let mut i: usize = 0;
@@ -292,7 +347,7 @@ fn mask(
         at: PostAt(0),
     };
     while i < n {
-        let next = run_end(&buf[..n], PostAt(i), left);
+        let next = run_end(&buf[..n], PostAt(i), left, letter2, letter3);
         to = move_down(buf, i, next.0, to);
         i = next.0;
         if n <= i {
@@ -323,16 +378,27 @@ fn mask(
     to
 }
 
-// Masks the first n bytes by code, then by c and icode, then by noparse. Returns how many bytes are left.
+// Masks the first n bytes by code, then by c and icode, then by noparse. (The c of `[icode]` is its third byte.) Returns how many bytes are left.
 fn mask_each(buf: &mut [u8], n: usize) -> usize
     requires { ⌜ n ≤ length (now buf) ⌝ }
     ensures { λ r. ⌜ (r ≤ n) × (take r (now (buf .exit)) ≡ visible (take n (now (buf .entry)))) ⌝ }
 {
-    let a = mask(buf, n, b"[code]", b"[code=", b"[/code]", b"[/code]");
-    let b = mask(buf, a, b"[c]", b"[icode]", b"[/c]", b"[/icode]");
+    let a = mask(
+        buf,
+        n,
+        b'c',
+        0,
+        b"[code]",
+        b"[code=",
+        b"[/code]",
+        b"[/code]",
+    );
+    let b = mask(buf, a, b'c', b'c', b"[c]", b"[icode]", b"[/c]", b"[/icode]");
     mask(
         buf,
         b,
+        b'n',
+        0,
         b"[noparse]",
         b"[noparse]",
         b"[/noparse]",

@@ -22,10 +22,10 @@ use Rattle.quote_tags.proofs.mask.run_end.Reads as run-end-reads
 use Rattle.text.proofs.scan.next_bracket.Reads as next-bracket-reads
 
 abbrev Inv-loop : tie.InvT-loop
-Inv-loop buf₀ n opener opener2 first second i₀ to₀ left₀ bracket₀ closer₀ buf i to left bracket closer = Masking (record { opens = opener ∷ opener2 ∷ []; closes = first ∷ second ∷ [] }) buf₀ n buf i to left (bracket .0) (closer .from .0) (closer .at .0)
+Inv-loop buf₀ n letter2 letter3 opener opener2 first second i₀ to₀ left₀ bracket₀ closer₀ buf i to left bracket closer = Masking (record { opens = opener ∷ opener2 ∷ []; closes = first ∷ second ∷ [] }) buf₀ n buf i to left (bracket .0) (closer .from .0) (closer .at .0)
 
 abbrev μ-loop : tie.MeasureT-loop
-μ-loop buf₀ n opener opener2 first second i₀ to₀ left₀ bracket₀ closer₀ buf i to left bracket closer = n - i
+μ-loop buf₀ n letter2 letter3 opener opener2 first second i₀ to₀ left₀ bracket₀ closer₀ buf i to left bracket closer = n - i
 
 slice-reshare-prefix-next-bracket : tie.Need-slice-reshare-prefix-next-bracket Inv-loop μ-loop
 slice-reshare-prefix-next-bracket c = c .before .before .before .before .before .pre .0

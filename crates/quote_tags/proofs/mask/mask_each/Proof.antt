@@ -5,6 +5,7 @@ use Prim.Native.Nat.{ℕ, suc, _+_, _-_, _≤_, _<_}
 use mathlib.Core.List.{List, [], _∷_, _++_}
 use lib.ListN.{length, getD}
 use Rattle.quote_tags.proofs.Masking.{visible-by, region-same, masked-same, any-twice, same-any}
+use Rattle.quote_tags.proofs.Unmasking.{code-by-c, icode-by-c, noparse-by-n}
 use Rattle.quote_tags.specs.Masks.{code, icode, noparse}
 use Rattle.quote_tags.proofs.mask.mask_each.Statement.{statement}
 use Rattle.quote_tags.proofs.mask.mask_each.Tie as tie
@@ -26,7 +27,7 @@ slice-aggregate-mask-4 c = search needs
 
 mask-requires : tie.Need-mask-requires
 unfolding code
-mask-requires c κs = (search needs, λ x h. region-same _ code (same-any _) (any-twice _) x ∙ h .0)
+mask-requires c κs = (search needs, λ x h. region-same _ code (same-any _) (any-twice _) x ∙ code-by-c x h)
 
 slice-aggregate-mask-5 : tie.Need-slice-aggregate-mask-5
 slice-aggregate-mask-5 c = search needs
@@ -42,7 +43,7 @@ slice-aggregate-mask-8 c = search needs
 
 mask-requires-2 : tie.Need-mask-requires-2
 unfolding icode
-mask-requires-2 c κs = let s = c .before .before .before .before .before .before .before .mask .ensures .short in let p = c .before .before .before .before .before .before .before .before .before .before .before .before .before .before .pre in (omega (arith, s, p), λ x h. region-same _ icode (same-any _) (same-any _) x ∙ h .1)
+mask-requires-2 c κs = let s = c .before .before .before .before .before .before .before .mask .ensures .short in let p = c .before .before .before .before .before .before .before .before .before .before .before .before .before .before .pre in (omega (arith, s, p), λ x h. region-same _ icode (same-any _) (same-any _) x ∙ icode-by-c x h)
 
 slice-aggregate-mask-9 : tie.Need-slice-aggregate-mask-9
 slice-aggregate-mask-9 c = search needs
@@ -58,7 +59,7 @@ slice-aggregate-mask-12 c = search needs
 
 mask-requires-3 : tie.Need-mask-requires-3
 unfolding noparse
-mask-requires-3 c κs = let s = c .before .before .before .before .before .before .before .before .before .before .before .before .before .before .before .mask .ensures .short in let t = c .before .before .before .before .before .before .before .mask2 .ensures .short in let p = c .before .before .before .before .before .before .before .before .before .before .before .before .before .before .before .before .before .before .before .before .before .before .pre in (omega (arith, s, t, p), λ x h. region-same _ noparse (any-twice _) (any-twice _) x ∙ h .2)
+mask-requires-3 c κs = let s = c .before .before .before .before .before .before .before .before .before .before .before .before .before .before .before .mask .ensures .short in let t = c .before .before .before .before .before .before .before .mask2 .ensures .short in let p = c .before .before .before .before .before .before .before .before .before .before .before .before .before .before .before .before .before .before .before .before .before .before .pre in (omega (arith, s, t, p), λ x h. region-same _ noparse (any-twice _) (any-twice _) x ∙ noparse-by-n x h)
 
 same-length : tie.Need-same-length
 same-length c = search needs

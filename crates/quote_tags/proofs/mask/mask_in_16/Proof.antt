@@ -6,8 +6,8 @@ use mathlib.Core.List.{List, [], _∷_, _++_}
 use lib.ListN.{length, getD, drop}
 use mathlib.Core.Bool.{false}
 use Rattle.quote_tags.specs.Masks.{NoMask}
-use Rattle.quote_tags.proofs.Places.{Between, between-turn}
-use Rattle.quote_tags.proofs.Unmasking.{not-open-at}
+use Rattle.quote_tags.proofs.Places.{Between}
+use Rattle.quote_tags.proofs.Unmasking.{block-turn}
 use Rattle.quote_tags.proofs.mask.mask_in_16.Statement.{statement}
 use Rattle.quote_tags.proofs.mask.mask_in_16.Tie as tie
 use Rattle.quote_tags.proofs.mask.mask_in_16.Reads as reads
@@ -60,7 +60,7 @@ loop-again : tie.Need-loop-again Inv-loop μ-loop
 loop-again c =
     let l = c .before .before .before .before .before .loop in
     let a = c .before .before .before .before .before .before .before .args in
-    (search needs, λ z j h g. between-turn (λ j. NoMask (drop j (a .s .now))) (a .i) (a .i + l .k) (l .stands) _ (l .inv .1) (not-open-at (a .s .now) (a .i + l .k) (c .may-open .ensures) refl refl refl) z j h (omega arith))
+    (search needs, block-turn NoMask (a .s .now) (c .may-open .ensures) (a .i) (l .k) (l .stands) (l .inv .1) refl refl refl)
 
 returns : tie.Need-returns Inv-loop μ-loop
 returns c = let l = c .before .loop in λ z j h g. l .inv .1 z j h (omega arith)

@@ -3,9 +3,9 @@ use native.Mathlib.Omega.{arith}
 use mathlib.Core.Path.{_≡_, refl, sym, ap, _∙_}
 use Prim.Native.Nat.{ℕ, suc, _+_, _-_, _≤_, _<_}
 use mathlib.Core.List.{List, [], _∷_, _++_}
-use lib.ListN.{length, getD, drop}
+use lib.ListN.{length, getD}
 use Rattle.quote_tags.specs.Masks.{NoMask}
-use Rattle.quote_tags.proofs.Places.{Between, between-then}
+use Rattle.quote_tags.proofs.Places.{Run, run-none, run-over}
 use Rattle.quote_tags.proofs.mask.past_16s.Statement.{statement}
 use Rattle.quote_tags.proofs.mask.past_16s.Tie as tie
 use Rattle.quote_tags.proofs.mask.past_16s.Reads as reads
@@ -13,43 +13,35 @@ use Rattle.quote_tags.proofs.mask.past_16s.Lts as lts
 use Rattle.quote_tags.proofs.mask.mask_in_16.Reads as mask-in-16-reads
 
 abbrev Inv-loop : tie.InvT-loop
-Inv-loop s at i₀ i = ((at ≤ i) × (i ≤ length s)) × Between (λ j. NoMask (drop j s)) at i
+Inv-loop s at i₀ i = Run NoMask s at i
 
 abbrev μ-loop : tie.MeasureT-loop
 μ-loop s at i₀ i = length s - i
 
--- src/mask.rt:228:5
 loop-holds : tie.Need-loop-holds Inv-loop μ-loop
-loop-holds c = ((search needs, search needs), λ j h l. absurd (omega arith))
+loop-holds c = let a = c .before .args in run-none NoMask (a .s .now) (a .at) (search needs)
 
--- src/mask.rt:228:17
 sub-loop : tie.Need-sub-loop Inv-loop μ-loop
 sub-loop c = search needs
 
--- src/mask.rt:229:12
 mask-in-16-requires : tie.Need-mask-in-16-requires Inv-loop μ-loop
 mask-in-16-requires c κs = search needs
 
--- src/mask.rt:230:13
 returns : tie.Need-returns Inv-loop μ-loop
 returns c = c .before .before .before .loop .inv
 
--- src/mask.rt:232:9
 add-i : tie.Need-add-i Inv-loop μ-loop
 add-i c = search needs
 
--- src/mask.rt:228:5
 loop-less : tie.Need-loop-less Inv-loop μ-loop
 loop-less c = search needs
 
--- src/mask.rt:228:5
 loop-again : tie.Need-loop-again Inv-loop μ-loop
 loop-again c =
     let l = c .before .before .before .loop in
     let a = c .before .before .before .before .before .args in
-    ((search needs, search needs), between-then (λ j. NoMask (drop j (a .s .now))) (a .at) (l .i) (l .i + 16) (l .inv .1) (c .before .mask-in-16 .ensures (c .if1 .left)))
+    run-over NoMask (a .s .now) (a .at) (l .i) (l .inv) 16 (search needs) (c .before .mask-in-16 .ensures (c .if1 .left))
 
--- src/mask.rt:223:1
 returns-2 : tie.Need-returns-2 Inv-loop μ-loop
 returns-2 c = c .before .loop .inv
 

@@ -8,19 +8,16 @@ use Rattle.quote_tags.proofs.mask.run_end.Statement.{statement}
 use Rattle.quote_tags.proofs.mask.run_end.Tie as tie
 use Rattle.quote_tags.proofs.mask.run_end.Reads as reads
 use Rattle.quote_tags.proofs.mask.run_end.Lts as lts
-use Rattle.quote_tags.proofs.mask.next_mask.Reads as next-mask-reads
+use Rattle.quote_tags.proofs.mask.next_opener.Reads as next-opener-reads
 
--- src/mask.rt:258:9
 returns : tie.Need-returns
-returns c = search needs
+returns c = ((search needs, search needs), λ j h l. absurd (omega arith))
 
--- src/mask.rt:260:5
-next-mask-requires : tie.Need-next-mask-requires
-next-mask-requires c κs = search needs
+next-opener-requires : tie.Need-next-opener-requires
+next-opener-requires c κs = search needs
 
--- src/mask.rt:253:1
 returns-2 : tie.Need-returns-2
-returns-2 c = let e = c .next-mask .ensures in (e .0, λ j h l. (omega arith, e .1 j h l))
+returns-2 c = let e = c .next-opener .ensures in (e .0, λ j h l. (omega arith, e .1 j h l))
 
 pub run-end-spec : {M : Type 1} → statement M
-run-end-spec = tie.close (tie.spec returns next-mask-requires returns-2)
+run-end-spec = tie.close (tie.spec returns next-opener-requires returns-2)
