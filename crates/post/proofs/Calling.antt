@@ -6,7 +6,7 @@ use Prim.Native.Nat.{ℕ, _+_, _-_, _*_, _≤_, _<_}
 use native.Mathlib.Omega.{arith}
 use native.Mathlib.Decide.{decLe}
 use lib.ListN.{length, take, replicate, length-map, length-append}
-use lib.Seq.{length-take-le, take-at, take-append-le}
+use lib.Seq.{length-take-le, take-at, take-append-le, take-take}
 use lib.Dec.{ltb}
 use borrow.Author.Tests.{lt-ltb, le-ltb}
 use Rattle.text.specs.Cells.{Cell, cells, cellsOf, bytes, origins, part}
@@ -219,18 +219,23 @@ quoting-losses x m a w n a' w' = by (ltb m (Quotes.quotesNeed caption x)) (ListT
     by false false true e = refused-done e
     by false false false e = done-losses e
 
--- behind the first `base` numbers others were written
-module _ (rs : List ℕ) (j losses base : ℕ) (ns rest : List ℕ) (few : losses ≤ j) (there : take (5 * losses) (take base ns) ≡ rs) (room : 5 * losses ≤ base) (in-numbers : base ≤ length ns) where
-  pub quoting-noted : (x : List Cell) (m w : ℕ) (l : Posted) → l ≡ quoting x m losses w → Noted rs j l (take base ns ++ rest)
-  quoting-noted x m w (Refused r) e = refused-noted rs j (Refused r) r (take base ns ++ rest) refl
+-- a text of n bytes has no more losses
+pub few-losses : {losses : ℕ} (n : ℕ) (out : List ℕ) → n ≤ length out → losses ≤ length (take n out) → losses ≤ n
+few-losses n out h l = let e = length-take-le n out h in omega (arith, l, e)
+
+-- behind the numbers of the records others were written
+module _ (rs : List ℕ) (j losses : ℕ) (ns rest : List ℕ) (few : losses ≤ j) (there : take (5 * losses) ns ≡ rs) (room : 5 * losses ≤ length ns) where
+  pub quoting-noted : (x : List Cell) (m w : ℕ) (l : Posted) → l ≡ quoting x m losses w → Noted rs j l (take (5 * losses) ns ++ rest)
+  quoting-noted x m w (Refused r) e = refused-noted rs j (Refused r) r (take (5 * losses) ns ++ rest) refl
   quoting-noted x m w (Done n a w') e =
       let f = quoting-losses x m losses w n a w' (sym e) in
-      let l : length (take base ns) ≡ base = length-take-le base ns in-numbers in
-      let z = length-append (take base ns) rest in
+      let l : length (take (5 * losses) ns) ≡ 5 * losses = length-take-le (5 * losses) ns room in
+      let z = length-append (take (5 * losses) ns) rest in
+      let t = take-append-le (5 * losses) (take (5 * losses) ns) rest (omega (arith, l)) ∙ take-take (5 * losses) (5 * losses) ns (omega arith) ∙ there in
       record {
         room = omega (arith, f, l, z);
         few = omega (arith, f);
-        there = ap (λ (i : ℕ). take (5 * i) (take base ns ++ rest)) f ∙ take-append-le (5 * losses) (take base ns) rest (omega (arith, l)) ∙ there;
+        there = ap (λ (i : ℕ). take (5 * i) (take (5 * losses) ns ++ rest)) f ∙ t;
       }
 
 pub noted-longer : (rs : List ℕ) (j : ℕ) (l : Posted) (ns rest : List ℕ) → Noted rs j l ns → Noted rs j l (ns ++ rest)

@@ -122,7 +122,8 @@ fn list_lost(
 }
 
 // Quotes and lists of the marks text of a post, the n cells at the front of out and origins. It has no more losses than cells, and no more cells
-// than the post has bytes, so five numbers for each byte hold the numbers of their records; the passes have the work numbers behind them.
+// than the post has bytes, so five numbers for each byte hold the numbers of their records; the passes have the work numbers behind the records,
+// most of which marks has just used.
 fn convert_marked(
     post: &[u8],
     n: usize,
@@ -149,7 +150,7 @@ fn convert_marked(
             n,
             Counts { losses, bytes },
             work,
-            &mut numbers[base..],
+            &mut numbers[5 * losses..],
             out,
             origins,
             loss_bytes,

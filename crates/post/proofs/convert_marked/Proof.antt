@@ -5,12 +5,12 @@ use Prim.Native.Nat.{ℕ, suc, _+_, _-_, _*_, _≤_, _<_}
 use mathlib.Core.List.{List, [], _∷_, _++_}
 use lib.ListN.{length, getD}
 use lib.ListN.{take}
-use lib.Seq.{length-take-le}
+use lib.Seq.{length-take-le, take-take}
 use Rattle.text.specs.Cells.{cells}
 use Rattle.text.proofs.Clearing.{cells-bytes}
 use Rattle.quote_losses.proofs.Recording.{back-long}
 use Rattle.quotes.proofs.Conversion.{spelled-there, records-there, listed-counts, within}
-use Rattle.post.proofs.Calling.{ends-refused, ends-as, ends-spelled, marked-by, answer-refused, answer-fine, refused-noted, quoting-noted}
+use Rattle.post.proofs.Calling.{ends-refused, ends-as, ends-spelled, marked-by, answer-refused, answer-fine, refused-noted, few-losses, quoting-noted}
 use Rattle.post.proofs.convert_marked.Statement.{statement}
 use Rattle.post.proofs.convert_marked.Tie as tie
 use Rattle.post.proofs.convert_marked.Reads as reads
@@ -36,15 +36,36 @@ enum-told : tie.Need-enum-told
 enum-told c = search needs
 
 mul-write-quotes : tie.Need-mul-write-quotes
-mul-write-quotes c = search needs
+mul-write-quotes c =
+    let s = c .before .before .before .before .before .before .before .before .before .before .before .before .before .before .before .before .before .before .before .before .before .args in
+    let pre = c .before .before .before .before .before .before .before .before .before .before .before .before .before .before .before .before .before .before .before .before .before .pre in
+    let p = c .before .before .before .before .before .before .before .before .before .before .list-lost in
+    let few = few-losses (s .n) (s .out .now) (pre .0 .1 .0 .0) (p .ensures .0 .few) in
+    record { fits = omega (arith, few, pre .0 .0, pre .0 .1 .0 .1) }
+
+mul-write-quotes-2 : tie.Need-mul-write-quotes-2
+mul-write-quotes-2 c =
+    let s = c .before .before .before .before .before .before .before .before .before .before .before .before .before .before .before .before .before .before .before .before .before .args in
+    let pre = c .before .before .before .before .before .before .before .before .before .before .before .before .before .before .before .before .before .before .before .before .before .pre in
+    let p = c .before .before .before .before .before .before .before .before .before .before .list-lost in
+    let few = few-losses (s .n) (s .out .now) (pre .0 .1 .0 .0) (p .ensures .0 .few) in
+    record { fits = omega (arith, few, pre .0 .0, pre .0 .1 .0 .1) }
 
 sub-write-quotes : tie.Need-sub-write-quotes
 sub-write-quotes c =
-    omega (arith, c .before .before .before .before .before .before .before .before .before .before .before .before .before .before .before .before .before .before .before .before .before .pre .1 .1 .0, c .before .before .before .before .before .before .before .before .before .before .list-lost .kept .1 .1 .1 .1 .0)
+    let s = c .before .before .before .before .before .before .before .before .before .before .before .before .before .before .before .before .before .before .before .before .before .args in
+    let pre = c .before .before .before .before .before .before .before .before .before .before .before .before .before .before .before .before .before .before .before .before .before .pre in
+    let p = c .before .before .before .before .before .before .before .before .before .before .list-lost in
+    let few = few-losses (s .n) (s .out .now) (pre .0 .1 .0 .0) (p .ensures .0 .few) in
+    omega (arith, few, pre .0 .1 .0 .1, pre .1 .1 .0, p .kept .1 .1 .1 .1 .0)
 
 part-write-quotes-start : tie.Need-part-write-quotes-start
 part-write-quotes-start c =
-    omega (arith, c .before .before .before .before .before .before .before .before .before .before .before .before .before .before .before .before .before .before .before .before .before .pre .1 .1 .0, c .before .before .before .before .before .before .before .before .before .before .list-lost .kept .1 .1 .1 .1 .0)
+    let s = c .before .before .before .before .before .before .before .before .before .before .before .before .before .before .before .before .before .before .before .before .before .args in
+    let pre = c .before .before .before .before .before .before .before .before .before .before .before .before .before .before .before .before .before .before .before .before .before .pre in
+    let p = c .before .before .before .before .before .before .before .before .before .before .list-lost in
+    let few = few-losses (s .n) (s .out .now) (pre .0 .1 .0 .0) (p .ensures .0 .few) in
+    omega (arith, few, pre .0 .1 .0 .1, pre .1 .1 .0, p .kept .1 .1 .1 .1 .0)
 
 part-write-quotes-end : tie.Need-part-write-quotes-end
 part-write-quotes-end c = search needs
@@ -59,9 +80,10 @@ write-quotes-requires c κs =
     let lb = p .kept .1 .1 .1 .1 .1 .1 .0 in
     let x = take (s .n) (cells (s .out .now) (s .origins .now)) in
     let e = cells-bytes (s .n) (s .out .now) (s .origins .now) (pre .0 .1 .0 .0) (omega (arith, pre .0 .1 .0 .0, pre .0 .1 .1 .1)) in
-    let n = back-long (p .last .1 .1 .1 .1 .0) (5 * length (s .post .now)) in
+    let few = few-losses (s .n) (s .out .now) (pre .0 .1 .0 .0) (p .ensures .0 .few) in
+    let n = back-long (p .last .1 .1 .1 .1 .0) (5 * p .result .losses) in
     let w = within (c .before .before .before .before .before .before .before .before .before .before .before .before .before .before .list-lost .result .deep) (s .lent) _ (p .result .losses) (p .result .bytes) (sym (c .before .before .before .before .before .before .before .refusal-of .ensures) ∙ c .before .before .before .before .before .enum-told .given .1) in
-    ((((pre .0 .1 .0 .0, pre .0 .1 .1), (omega (arith, pre .1 .0, lw), (omega (arith, pre .1 .1 .0, ln, n), omega (arith, pre .1 .1 .1, ln, n)))), w .1 .1), c .before .before .before .before .before .before .before .before .before .before .before .before .before .before .list-lost .ensures .1 x e ∙ w .0)
+    ((((pre .0 .1 .0 .0, pre .0 .1 .1), (omega (arith, pre .1 .0, lw), (omega (arith, pre .1 .1 .0, ln, n, few, pre .0 .1 .0 .1), omega (arith, pre .1 .1 .1, ln, n)))), w .1 .1), c .before .before .before .before .before .before .before .before .before .before .before .before .before .before .list-lost .ensures .1 x e ∙ w .0)
 
 same-length : tie.Need-same-length
 same-length c = search needs
@@ -121,12 +143,12 @@ returns-2 c =
     let f = sym (c .before .before .before .before .before .before .before .before .before .before .before .before .before .before .before .before .before .before .refusal-of .ensures) ∙ c .before .before .before .before .before .before .before .before .before .before .before .before .before .before .before .before .enum-told .given .1 in
     let w = within (c .before .before .before .before .before .before .before .before .before .before .before .before .before .before .before .before .before .before .before .before .before .before .before .before .before .list-lost .result .deep) (s .lent) _ (p .result .losses) (p .result .bytes) f in
     let there = spelled-there (s .post .now) _ _ _ _ _ _ _ (p .ensures .0) x e (omega (arith, w .1 .1, lb)) in
-    let l = length-take-le (s .n) (s .out .now) (pre .0 .1 .0 .0) in
+    let few = few-losses (s .n) (s .out .now) (pre .0 .1 .0 .0) (p .ensures .0 .few) in
     let i = length-take-le (5 * length (s .post .now)) (s .numbers .now) (omega (arith, pre .1 .1 .0)) in
     let g = rw lb at (c .before .before .before .before .before .before .before .before .before .before .write-quotes .ensures) in (
       ends-as (ends-spelled _ x _ _ there g) (marked-by x _ _ _ _ _ _ _ lb (sym (c .before .before .before .before .before .before .before .before .before .before .before .before .before .before .before .before .before .before .before .before .before .before .before .before .before .list-lost .ensures .1 x e)) (n .0) (n .1) ∙ answer-fine _ _ f),
-      quoting-noted _ _ _ (5 * length (s .post .now)) (p .last .1 .1 .1 .1 .0) _ (w .1 .0) (records-there (s .post .now) _ _ _ _ _ _ _ (p .ensures .0) x e (omega (arith, p .ensures .0 .few, l, i, pre .0 .1 .0 .1)))
-          (omega (arith, p .ensures .0 .few, l, pre .0 .1 .0 .1)) (omega (arith, pre .1 .1 .0, ln)) x _ _ _ (g .answer),
+      quoting-noted _ _ _ (p .last .1 .1 .1 .1 .0) _ (w .1 .0) (sym (take-take (5 * p .result .losses) (5 * length (s .post .now)) (p .last .1 .1 .1 .1 .0) (omega (arith, few, pre .0 .1 .0 .1))) ∙ records-there (s .post .now) _ _ _ _ _ _ _ (p .ensures .0) x e (omega (arith, few, i, pre .0 .1 .0 .1)))
+          (omega (arith, few, pre .0 .1 .0 .1, pre .1 .1 .0, ln)) x _ _ _ (g .answer),
     )
 
 pub convert-marked-spec : {M : Type 1} → statement M
@@ -140,6 +162,7 @@ convert-marked-spec =
     refuse-requires
     enum-told
     mul-write-quotes
+    mul-write-quotes-2
     sub-write-quotes
     part-write-quotes-start
     part-write-quotes-end
