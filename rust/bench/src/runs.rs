@@ -8,20 +8,22 @@ use crate::{
 };
 use std::{hint::black_box, time::Duration};
 
-/// How much time the least of a contender's samples is looked for.
-const EACH: Duration = Duration::from_millis(150);
+/// How much time a contender's samples take together.
+const EACH: Duration = Duration::from_millis(300);
 /// A contender that takes longer than a quarter of this for a post is not given a longer one.
 const PATIENCE: Duration = Duration::from_millis(600);
 
 pub const MOST: usize = 262_144;
 
-/// Nanoseconds of one call on posts of one length.
+/// Nanoseconds of one call on posts of one length, and the ratios to what was timed in turns with it.
 pub struct Forum {
     pub n: usize,
     pub carve: f64,
     pub original: f64,
     pub cmark: f64,
     pub memcpy: f64,
+    pub cmark_by_carve: f64,
+    pub carve_by_memcpy: f64,
 }
 
 /// A contender on the longest post that it was given, beside the proved converter on the same one.
@@ -36,8 +38,10 @@ pub struct Beside {
 pub struct Hard {
     pub family: &'static Family,
     pub number: u32,
-    /// The proved converter at 65,536, 131,072 and 262,144 bytes.
-    pub carve: [f64; 3],
+    /// The proved converter at 262,144 bytes.
+    pub carve: f64,
+    /// Its time at 131,072 by that at 65,536 bytes, and at 262,144 by that at 131,072.
+    pub growths: [f64; 2],
     /// Copying the result's cells at 262,144 bytes, where there is a result.
     pub memcpy: Option<f64>,
     pub original: Beside,
@@ -47,7 +51,7 @@ pub struct Hard {
 impl Hard {
     /// The greater of the two growths.
     pub fn growth(&self) -> f64 {
-        (self.carve[1] / self.carve[0]).max(self.carve[2] / self.carve[1])
+        self.growths[0].max(self.growths[1])
     }
 }
 
@@ -97,7 +101,15 @@ fn forum(n: usize) -> Forum {
     let original = time::bounded(4 * PATIENCE, || {
         black_box(oracle::post(black_box(string(&post))));
     });
-    Forum { n, carve: times[0], cmark: times[1], memcpy: times[2], original }
+    Forum {
+        n,
+        carve: times.of(0),
+        original,
+        cmark: times.of(1),
+        memcpy: times.of(2),
+        cmark_by_carve: times.ratio(1, 0),
+        carve_by_memcpy: times.ratio(0, 2),
+    }
 }
 
 /// Gives a contender posts of doubled length, up to the greatest, as long as it stays within `PATIENCE`.
@@ -110,11 +122,12 @@ fn beside(family: &Family, mut call: impl FnMut(&[u8])) -> Beside {
         if n == MOST || its > PATIENCE.as_nanos() as f64 / 4.0 {
             let mut lent = Lent::for_post(&post);
             let carve = time::in_turns(
-                EACH / 2,
+                EACH / 4,
                 &mut [&mut || {
                     black_box(lent.convert(black_box(&post)));
                 }],
-            )[0];
+            )
+            .of(0);
             return Beside { n, its, carve, growth: its / half };
         }
         (n, half) = (2 * n, its);
@@ -141,13 +154,14 @@ fn hard(family: &'static Family) -> Hard {
         ],
     );
     let mut cells = (vec![0; c.out.len()], vec![0; c.out.len()]);
-    let memcpy = (number == 0).then(|| time::in_turns(EACH / 4, &mut [&mut || copy(black_box(c), &mut cells)])[0]);
+    let memcpy = (number == 0).then(|| time::in_turns(EACH / 8, &mut [&mut || copy(black_box(c), &mut cells)]).of(0));
     let short = (family.make)(4096);
     agree(family.name, &short, &mut Lent::for_post(&short));
     Hard {
         family,
         number,
-        carve: [times[0], times[1], times[2]],
+        carve: times.of(2),
+        growths: [times.ratio(1, 0), times.ratio(2, 1)],
         memcpy,
         original: beside(family, |post| {
             black_box(oracle::post(string(post)));
@@ -160,13 +174,13 @@ fn hard(family: &'static Family) -> Hard {
 pub fn all() -> Runs {
     let forum: Vec<Forum> = [1024, 65_536, MOST].map(forum).into_iter().collect();
     for f in &forum {
-        eprintln!("forum-like, {} bytes: {:.2} ns a byte, {:.0} times the original, {:.2} times cmark", f.n, f.carve / f.n as f64, f.original / f.carve, f.cmark / f.carve);
+        eprintln!("forum-like, {} bytes: {:.2} ns a byte, {:.0} times the original, {:.2} times cmark", f.n, f.carve / f.n as f64, f.original / f.carve, f.cmark_by_carve);
     }
     let hard = posts::FAMILIES
         .iter()
         .map(|family| {
             let h = hard(family);
-            eprintln!("{}: answer {}, {:.2} ns a byte, growth {:.2}", family.name, h.number, h.carve[2] / MOST as f64, h.growth());
+            eprintln!("{}: answer {}, {:.2} ns a byte, growth {:.2}", family.name, h.number, h.carve / MOST as f64, h.growth());
             h
         })
         .collect();
