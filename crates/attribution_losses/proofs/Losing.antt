@@ -1,7 +1,7 @@
 -- Laws of the losses part by part. Assumes nothing.
 use mathlib.Core.Path.{_≡_, refl, sym, ap, _∙_}
 use mathlib.Core.Bool.{Bool, true, false, cond, not, _&&_, _||_, true≢false}
-use mathlib.Core.List.{List, [], _∷_, _++_, map, append-nil, append-assoc}
+use mathlib.Core.List.{List, [], _∷_, _++_, append-nil, append-assoc}
 use Prim.Native.Nat.{ℕ, zero, suc, _+_, _-_, _*_, _≤_, _<_}
 use native.Mathlib.Nat.{add-sub-cancel-left}
 use native.Mathlib.Numerals.{add-one}
@@ -11,11 +11,11 @@ use lib.Dec.{eqb, ltb}
 use lib.ListN.{length, take, drop, drop-of-length-le, length-drop}
 use lib.Seq.{take-take, drop-drop, take-nil}
 use borrow.Author.Tests.{eq-eqb, ne-eqb}
-use Rattle.text.specs.Ascii.{ascii, isEmpty}
+use Rattle.text.specs.Ascii.{ascii, is, isEmpty, toFirst}
 use Rattle.day.specs.Day.{isSeconds}
 use Rattle.attribution_reading.specs.declared.scan.Place.{Place}
 use Rattle.attribution_parts.specs.declared.Kind.{Kind}
-use Rattle.attribution_parts.specs.declared.Kind.the-variants.{Name, PostId, Id, Date, Time}
+use Rattle.attribution_parts.specs.declared.Kind.the-variants.{Name, PostId, Id, Time}
 use Rattle.attribution_reading.specs.declared.facts.Field.{Field}
 use Rattle.attribution_reading.specs.declared.facts.Fields.{Fields}
 use Rattle.attribution_reading.specs.declared.facts.Ends.{Ends}
@@ -23,12 +23,13 @@ use Rattle.attribution_reading.specs.declared.facts.Lead.{Lead}
 use Rattle.attribution_losses.specs.declared.loss.Counts.{Counts}
 use Rattle.attribution_losses.specs.declared.loss.Group.{Group}
 use Rattle.attribution_parts.specs.Parts.{Part, field, text, parts}
-use Rattle.attribution_parts.specs.Attribution.{isLeading, partNo, leading, leadingId, spaced, joined, wordsOf, textsOf, suffix, fieldOf, isDay, Loss, lossOf, cutIf, cutLast, runWords, inRun, isUsed, unnamed, lossAt, lossesFrom, passedOver, lossesOf, losses}
+use Rattle.attribution_parts.specs.Attribution.{isLeading, partNo, leading, leadingId, spaced, joined, textsOf, suffix, fieldOf, isDay, Loss, lossOf, cutIf, cutLast, runWords, isUsed, unnamed, lossAt, lossesFrom, passedOver, lossesOf, losses}
 use Rattle.attribution_reading.specs.Places.{bytes, partOf, partWith, Stands, Scanned}
 use Rattle.attribution_reading.specs.Reads.{FieldAt, FieldsAt, LeadAt, EndsAt}
 use Rattle.attribution_losses.specs.Lists.{Puts, flag, lossWords, recordOf, recordsOf, cutSize, usedBy, passedBy, passedLoss, lossesAt, runAt, Told, Here, Ran, Grouped, Lists, Listed}
 use Rattle.attribution_reading.proofs.Laws.{scan-on}
 use Rattle.attribution_reading.proofs.Fielding.{length-bytes}
+use Rattle.attribution_reading.proofs.NoFields.{NoFields, no-part, a-text, no-fields, field-none}
 use Rattle.attribution_losses.proofs.Listing.{puts-none, puts-then, puts-as, lists-none, lists-then, lists-one, lists-as}
 
 -- ---- parts behind a place
@@ -504,3 +505,46 @@ module _ (s : List ℕ) (d : Lead) (f : Fields) (ld : LeadAt s d) (fs : FieldsAt
       let n = start-counts in
       let m = flag-small in
       (lists-as losses-are (lists-then h (g .lists)), (omega (arith, n .0, m .0, g .losses), omega (arith, n .1, m .0, ld .slow, g .small)))
+
+-- ---- no fields, no losses
+
+-- no fields either from part n on, or with the last text cut
+drop-fieldless : (n : ℕ) {ps : List Part} → NoFields ps → NoFields (drop n ps)
+drop-fieldless zero h = h
+drop-fieldless (suc n) no-part = no-part
+drop-fieldless (suc n) (a-text w quoted h) = drop-fieldless n h
+
+cut-fieldless : (n : ℕ) {ps : List Part} → NoFields ps → NoFields (cutLast n ps)
+unfolding cutLast
+cut-fieldless n no-part = no-part
+cut-fieldless n (a-text w quoted {ps} h) = by (isEmpty (textsOf ps)) (cut-fieldless n h)
+  where
+    by : (t : Bool) → NoFields (cutLast n ps) → NoFields (cutIf t n (text w quoted) ∷ cutLast n ps)
+    by true r = a-text (take (length w - n) w) quoted r
+    by false r = a-text w quoted r
+
+-- a text is lost by a name field only
+fieldless-from : (all : List Part) (i : ℕ) (run : Bool) {ps : List Part} → fieldOf Name all ≡ [] → NoFields ps → lossesFrom all i run ps ≡ []
+unfolding lossesFrom lossAt unnamed
+fieldless-from all i run e no-part = refl
+fieldless-from all i run e (a-text w true h) = rw e (fieldless-from all (suc i) false e h)
+fieldless-from all i true e (a-text w false h) = fieldless-from all (suc i) true e h
+fieldless-from all i false e (a-text w false h) = rw e (fieldless-from all (suc i) true e h)
+
+fieldless-passed : (all : List Part) → NoFields all → passedOver all ≡ []
+unfolding passedOver
+fieldless-passed all h = rw (field-none PostId all h, field-none Id all h) (by (isEmpty (leadingId all)))
+  where
+    by : (t : Bool) → cond (t || true) [] (lossOf false (ascii "id")) ≡ []
+    by true = refl
+    by false = refl
+
+no-losses : (s : List ℕ) → NoFields (parts 0 s) → losses s ≡ []
+unfolding losses lossesOf
+no-losses s h =
+    let all = parts 0 s in
+    rw (fieldless-passed all h) (fieldless-from all (leading all) false (field-none Name all h) (cut-fieldless (length (suffix all)) (drop-fieldless (leading all) h)))
+
+pub none-listed : (s : List ℕ) → ltb (toFirst (is "=") s) (length s) ≡ false → (q l : ℕ) (rs : List ℕ) (k : ℕ) (bs : List ℕ) (to : ℕ)
+    → Lists q l rs k bs to rs k bs to (losses s) × ((k ≤ k + length s) × (to ≤ to + 2 * length s))
+none-listed s h q l rs k bs to = (lists-as (sym (no-losses s (no-fields s h))) (lists-none q l rs k bs to), (omega arith, omega arith))

@@ -3,14 +3,15 @@ use attribution_reading::facts::Ends;
 use attribution_reading::facts::Field;
 use attribution_reading::facts::Fields;
 use attribution_reading::facts::Lead;
+use attribution_reading::facts::has_equals;
 use attribution_reading::facts::leading_id;
 use attribution_reading::facts::read_ends;
 use attribution_reading::facts::read_fields;
 use attribution_reading::reader::read_part;
 use day::is_seconds;
 ghost use mathlib.Core.Path.{_≡_};
-ghost use mathlib.Core.Bool.{Bool, not, _&&_};
-ghost use mathlib.Core.List.{List, [], _∷_};
+ghost use mathlib.Core.Bool.{not, _&&_};
+ghost use mathlib.Core.List.{[], _∷_};
 ghost use Prim.Native.Nat.{_+_, _-_, _*_, _≤_, _<_};
 ghost use lib.ListN.{length};
 ghost use lib.Dec.{eqb};
@@ -362,6 +363,7 @@ pub fn is_day(s: &[u8], time: Field) -> bool
 }
 
 // Lists the losses of an attribution: records from number k on, and their bytes from `at` on. What does not fit is counted, not written.
+// Without a `=` there is no field, and so nothing is lost.
 pub fn put_losses(
     attribution: &[u8],
     quote: u32,
@@ -374,6 +376,12 @@ pub fn put_losses(
     requires { ⌜ (length (now attribution) ≤ 1073741824) × ((k + length (now attribution) < 4294967295) × (at + 2 * length (now attribution) ≤ 4294967280)) ⌝ }
     ensures { λ r. ⌜ Lists quote line (now (records .entry)) k (now («loss_bytes» .entry)) at (now (records .exit)) (r .losses) (now («loss_bytes» .exit)) (r .bytes) (losses (now (attribution .entry))) × ((r .losses ≤ k + length (now (attribution .entry))) × (r .bytes ≤ at + 2 * length (now (attribution .entry)))) ⌝ }
 {
+    if !has_equals(attribution) {
+        return Counts {
+            losses: k,
+            bytes: at,
+        };
+    }
     let fields = read_fields(attribution);
     let lead = leading_id(attribution);
     let ends = read_ends(attribution, fields, lead);

@@ -180,9 +180,22 @@ module _ (s : List ℕ) (k : Kind) (i at : ℕ) (p : Place) (f : Field) (st : St
             };
           }
 
+-- there is none
+pub no-such-field : (k : Kind) (ps : List Part) → length ps ≤ first k ps → fieldOf k ps ≡ []
+unfolding fieldOf
+no-such-field k ps le = rw (List·getD-eq-default ps (text [] false) {n = first k ps} le)
+
+pub found-none : (s : List ℕ) (k : Kind) (f : Field) → f .from + f .size ≤ length s → f .size ≡ 0 → length (parts 0 s) ≤ first k (parts 0 s) → FieldAt s k f
+unfolding bytes
+found-none s k f ins z le = record {
+  words = rw z (sym (no-such-field k (parts 0 s) le));
+  inside = ins;
+  here = λ j lt. rw z (sym (ne-eqb j (first k (parts 0 s)) (λ (q : j ≡ first k (parts 0 s)). omega arith)));
+}
+
 -- behind the last part
 pub found-all : (s : List ℕ) (k : Kind) (i at : ℕ) (f : Field) → Stands s i at → length s ≤ at → Found s k i at f → FieldAt s k f
-unfolding first fieldOf bytes parts
+unfolding first parts
 found-all s k i at f st le d = elim (ℕ-discrete (f .size) 0) [ yes z ↦ none z | no n ↦ d .yes n ]
   where
     short : (j : ℕ) (qs : List Part) → drop j qs ≡ [] → length qs ≤ j
@@ -193,11 +206,7 @@ found-all s k i at f st le d = elim (ℕ-discrete (f .size) 0) [ yes z ↦ none 
         let o : parts 0 (drop at s) ≡ [] = rw (drop-of-length-le s {i = at} le) in
         let e : first k (parts 0 s) ≡ i = d .no z ∙ rw o (add-zero i) in
         let n : length (parts 0 s) ≤ i = short i (parts 0 s) (st .rest ∙ o) in
-        record {
-          words = rw z (sym (rw (e, List·getD-eq-default (parts 0 s) (text [] false) {n = i} n)));
-          inside = d .inside;
-          here = λ j lt. rw (z, e) (sym (ne-eqb j i (λ (q : j ≡ i). omega arith)));
-        }
+        found-none s k f (d .inside) z (omega (arith, e, n))
 
 -- ---- a part is a usable field of one kind at most: its key's first letter says which
 

@@ -9,13 +9,14 @@ use day::all_digits;
 use text::PostAt;
 use text::scan::begins_at;
 use text::scan::is_inside;
+use text::scan::next_byte;
 ghost use mathlib.Core.Path.{_≡_};
 ghost use mathlib.Core.Bool.{cond};
 ghost use mathlib.Core.List.{[]};
 ghost use Prim.Native.Nat.{_+_, _≤_, _<_};
-ghost use lib.Dec.{eqb};
+ghost use lib.Dec.{eqb, ltb};
 ghost use lib.ListN.{length};
-ghost use Rattle.text.specs.Ascii.{spells, digits};
+ghost use Rattle.text.specs.Ascii.{is, toFirst, spells, digits};
 ghost use Rattle.attribution_parts.specs.Attribution.{isKind, isUsable, counts, isLeading, leading, given, toSuffix};
 ghost use Rattle.attribution_parts.specs.Parts.{parts};
 ghost use Rattle.attribution_reading.specs.Places.{partOf, Stands};
@@ -139,7 +140,15 @@ fn earlier(found: Field, here: Field) -> Field
     found
 }
 
-// One pass over the parts. A part is a usable field of one kind at most.
+// Whether a `=` stands in an attribution: without one it has no fields.
+pub fn has_equals(s: &[u8]) -> bool
+    ensures { λ r. ⌜ r ≡ ltb (toFirst (is "=") (now (s .entry))) (length (now (s .entry))) ⌝ }
+{
+    let equals = next_byte(s, PostAt(0), b'=');
+    equals.0 < s.len()
+}
+
+// One pass over the parts, where a `=` stands at all. A part is a usable field of one kind at most.
 pub fn read_fields(s: &[u8]) -> Fields
     ensures { λ r. ⌜ FieldsAt (now (s .entry)) r ⌝ }
 {
@@ -148,6 +157,15 @@ pub fn read_fields(s: &[u8]) -> Fields
         size: 0,
         index: 0,
     };
+    if !has_equals(s) {
+        return Fields {
+            name: none,
+            post: none,
+            id: none,
+            date: none,
+            time: none,
+        };
+    }
     let mut name = none;
     let mut post = none;
     let mut id = none;

@@ -4,13 +4,16 @@ use mathlib.Core.Path.{_≡_, refl, sym, ap, _∙_}
 use Prim.Native.Nat.{ℕ, suc, _+_, _-_, _≤_, _<_}
 use mathlib.Core.List.{List, [], _∷_, _++_}
 use lib.ListN.{length, getD}
+use borrow.Author.Tests.{not-true}
 use Rattle.attribution_reading.proofs.Fielding.{Reading, read-first, read-text, read-none, read-name, read-post, read-id, read-date, read-time, read-all, keeps-inside, scan-less}
+use Rattle.attribution_reading.proofs.NoFields.{no-fields, read-nothing}
 use Rattle.attribution_reading.proofs.facts.read_fields.Statement.{statement}
 use Rattle.attribution_reading.proofs.facts.read_fields.Tie as tie
 use Rattle.attribution_reading.proofs.facts.read_fields.Reads as reads
 use Rattle.attribution_reading.proofs.facts.read_fields.Lts as lts
 use Rattle.attribution_reading.proofs.facts.counts_as.Reads as counts-as-reads
 use Rattle.attribution_reading.proofs.facts.earlier.Reads as earlier-reads
+use Rattle.attribution_reading.proofs.facts.has_equals.Reads as has-equals-reads
 use Rattle.attribution_reading.proofs.reader.read_part.Reads as read-part-reads
 use Rattle.attribution_reading.proofs.scan.first_at.Reads as first-at-reads
 
@@ -19,6 +22,12 @@ Inv-loop s name₀ post₀ id₀ date₀ time₀ i₀ at₀ name post id date ti
 
 abbrev μ-loop : tie.MeasureT-loop
 μ-loop s name₀ post₀ id₀ date₀ time₀ i₀ at₀ name post id date time i at = length s - at
+
+has-equals-requires : tie.Need-has-equals-requires Inv-loop μ-loop
+has-equals-requires c κs = tt
+
+returns : tie.Need-returns Inv-loop μ-loop
+returns c = read-nothing _ (no-fields _ (sym (c .before .has-equals .ensures) ∙ not-true _ (c .if1 .taken)))
 
 first-at-requires : tie.Need-first-at-requires Inv-loop μ-loop
 first-at-requires c κs = tt
@@ -42,7 +51,7 @@ loop-less : tie.Need-loop-less Inv-loop μ-loop
 loop-less c = scan-less (c .before .before .before .before .before .read-part .ensures)
 
 loop-again : tie.Need-loop-again Inv-loop μ-loop
-loop-again c = rw (c .earlier .ensures) (read-name (c .before .before .before .before .before .before .before .loop .inv) (c .before .before .before .before .before .read-part .ensures) (sym (c .before .before .counts-as .ensures) ∙ c .before .if2 .taken))
+loop-again c = rw (c .earlier .ensures) (read-name (c .before .before .before .before .before .before .before .loop .inv) (c .before .before .before .before .before .read-part .ensures) (sym (c .before .before .counts-as .ensures) ∙ c .before .if3 .taken))
 
 counts-as-requires-2 : tie.Need-counts-as-requires-2 Inv-loop μ-loop
 counts-as-requires-2 c κs = keeps-inside (c .before .before .before .before .read-part .ensures)
@@ -54,7 +63,7 @@ loop-less-2 : tie.Need-loop-less-2 Inv-loop μ-loop
 loop-less-2 c = scan-less (c .before .before .before .before .before .before .before .read-part .ensures)
 
 loop-again-2 : tie.Need-loop-again-2 Inv-loop μ-loop
-loop-again-2 c = rw (c .earlier2 .ensures) (read-post (c .before .before .before .before .before .before .before .before .before .loop .inv) (c .before .before .before .before .before .before .before .read-part .ensures) (sym (c .before .before .counts-as2 .ensures) ∙ c .before .if3 .taken))
+loop-again-2 c = rw (c .earlier2 .ensures) (read-post (c .before .before .before .before .before .before .before .before .before .loop .inv) (c .before .before .before .before .before .before .before .read-part .ensures) (sym (c .before .before .counts-as2 .ensures) ∙ c .before .if4 .taken))
 
 counts-as-requires-3 : tie.Need-counts-as-requires-3 Inv-loop μ-loop
 counts-as-requires-3 c κs = keeps-inside (c .before .before .before .before .before .before .read-part .ensures)
@@ -66,7 +75,7 @@ loop-less-3 : tie.Need-loop-less-3 Inv-loop μ-loop
 loop-less-3 c = scan-less (c .before .before .before .before .before .before .before .before .before .read-part .ensures)
 
 loop-again-3 : tie.Need-loop-again-3 Inv-loop μ-loop
-loop-again-3 c = rw (c .earlier3 .ensures) (read-id (c .before .before .before .before .before .before .before .before .before .before .before .loop .inv) (c .before .before .before .before .before .before .before .before .before .read-part .ensures) (sym (c .before .before .counts-as3 .ensures) ∙ c .before .if4 .taken))
+loop-again-3 c = rw (c .earlier3 .ensures) (read-id (c .before .before .before .before .before .before .before .before .before .before .before .loop .inv) (c .before .before .before .before .before .before .before .before .before .read-part .ensures) (sym (c .before .before .counts-as3 .ensures) ∙ c .before .if5 .taken))
 
 counts-as-requires-4 : tie.Need-counts-as-requires-4 Inv-loop μ-loop
 counts-as-requires-4 c κs = keeps-inside (c .before .before .before .before .before .before .before .before .read-part .ensures)
@@ -78,7 +87,7 @@ loop-less-4 : tie.Need-loop-less-4 Inv-loop μ-loop
 loop-less-4 c = scan-less (c .before .before .before .before .before .before .before .before .before .before .before .read-part .ensures)
 
 loop-again-4 : tie.Need-loop-again-4 Inv-loop μ-loop
-loop-again-4 c = rw (c .earlier4 .ensures) (read-date (c .before .before .before .before .before .before .before .before .before .before .before .before .before .loop .inv) (c .before .before .before .before .before .before .before .before .before .before .before .read-part .ensures) (sym (c .before .before .counts-as4 .ensures) ∙ c .before .if5 .taken))
+loop-again-4 c = rw (c .earlier4 .ensures) (read-date (c .before .before .before .before .before .before .before .before .before .before .before .before .before .loop .inv) (c .before .before .before .before .before .before .before .before .before .before .before .read-part .ensures) (sym (c .before .before .counts-as4 .ensures) ∙ c .before .if6 .taken))
 
 counts-as-requires-5 : tie.Need-counts-as-requires-5 Inv-loop μ-loop
 counts-as-requires-5 c κs = keeps-inside (c .before .before .before .before .before .before .before .before .before .before .read-part .ensures)
@@ -90,22 +99,22 @@ loop-less-5 : tie.Need-loop-less-5 Inv-loop μ-loop
 loop-less-5 c = scan-less (c .before .before .before .before .before .before .before .before .before .before .before .before .before .read-part .ensures)
 
 loop-again-5 : tie.Need-loop-again-5 Inv-loop μ-loop
-loop-again-5 c = rw (c .earlier5 .ensures) (read-time (c .before .before .before .before .before .before .before .before .before .before .before .before .before .before .before .loop .inv) (c .before .before .before .before .before .before .before .before .before .before .before .before .before .read-part .ensures) (sym (c .before .before .counts-as5 .ensures) ∙ c .before .if6 .taken))
+loop-again-5 c = rw (c .earlier5 .ensures) (read-time (c .before .before .before .before .before .before .before .before .before .before .before .before .before .before .before .loop .inv) (c .before .before .before .before .before .before .before .before .before .before .before .before .before .read-part .ensures) (sym (c .before .before .counts-as5 .ensures) ∙ c .before .if7 .taken))
 
 loop-less-6 : tie.Need-loop-less-6 Inv-loop μ-loop
 loop-less-6 c = scan-less (c .before .before .before .before .before .before .before .before .before .before .before .before .read-part .ensures)
 
 loop-again-6 : tie.Need-loop-again-6 Inv-loop μ-loop
-loop-again-6 c = read-none (c .before .before .before .before .before .before .before .before .before .before .before .before .before .before .loop .inv) (c .before .before .before .before .before .before .before .before .before .before .before .before .read-part .ensures) (sym (c .before .before .before .before .before .before .before .before .before .counts-as .ensures) ∙ c .before .before .before .before .before .before .before .before .if2 .left) (sym (c .before .before .before .before .before .before .before .counts-as2 .ensures) ∙ c .before .before .before .before .before .before .if3 .left) (sym (c .before .before .before .before .before .counts-as3 .ensures) ∙ c .before .before .before .before .if4 .left) (sym (c .before .before .before .counts-as4 .ensures) ∙ c .before .before .if5 .left) (sym (c .before .counts-as5 .ensures) ∙ c .if6 .left)
+loop-again-6 c = read-none (c .before .before .before .before .before .before .before .before .before .before .before .before .before .before .loop .inv) (c .before .before .before .before .before .before .before .before .before .before .before .before .read-part .ensures) (sym (c .before .before .before .before .before .before .before .before .before .counts-as .ensures) ∙ c .before .before .before .before .before .before .before .before .if3 .left) (sym (c .before .before .before .before .before .before .before .counts-as2 .ensures) ∙ c .before .before .before .before .before .before .if4 .left) (sym (c .before .before .before .before .before .counts-as3 .ensures) ∙ c .before .before .before .before .if5 .left) (sym (c .before .before .before .counts-as4 .ensures) ∙ c .before .before .if6 .left) (sym (c .before .counts-as5 .ensures) ∙ c .if7 .left)
 
 loop-less-7 : tie.Need-loop-less-7 Inv-loop μ-loop
 loop-less-7 c = scan-less (c .before .before .read-part .ensures)
 
 loop-again-7 : tie.Need-loop-again-7 Inv-loop μ-loop
-loop-again-7 c = read-text (c .before .before .before .before .loop .inv) (c .before .before .read-part .ensures) (c .if1 .left)
+loop-again-7 c = read-text (c .before .before .before .before .loop .inv) (c .before .before .read-part .ensures) (c .if2 .left)
 
-returns : tie.Need-returns Inv-loop μ-loop
-returns c = read-all (c .before .loop .inv) (c .loop-test .left)
+returns-2 : tie.Need-returns-2 Inv-loop μ-loop
+returns-2 c = read-all (c .before .loop .inv) (c .loop-test .left)
 
 pub read-fields-spec : {M : Type 1} → statement M
 read-fields-spec =
@@ -113,6 +122,8 @@ read-fields-spec =
     (tie.spec
     Inv-loop
     μ-loop
+    has-equals-requires
+    returns
     first-at-requires
     loop-holds
     read-part-requires
@@ -141,4 +152,4 @@ read-fields-spec =
     loop-again-6
     loop-less-7
     loop-again-7
-    returns)
+    returns-2)
