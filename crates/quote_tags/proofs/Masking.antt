@@ -1,6 +1,6 @@
 -- Laws of masking a text in place. Assumes nothing.
 use mathlib.Core.Path.{_≡_, refl, sym, ap, _∙_}
-use mathlib.Core.Bool.{Bool, true, false, cond, _||_}
+use mathlib.Core.Bool.{Bool, true, false, cond, _&&_, _||_, true≢false}
 use mathlib.Core.List.{List, [], _∷_, _++_, append-assoc, append-nil}
 use Prim.Native.Nat.{ℕ, zero, suc, _+_, _-_, _≤_, _<_}
 use native.Mathlib.Nat.{add-zero, sub-zero, zero-sub, suc-sub-suc}
@@ -8,13 +8,13 @@ use native.Mathlib.Numerals.{add-one}
 use native.Mathlib.Omega.{arith}
 use native.Mathlib.Decide.{decLe}
 use lib.Dec.{ltb}
-use lib.ListN.{length, take, drop, getD, set, length-set, length-drop, drop-of-length-le}
-use lib.Seq.{take-nil, drop-cons, drop-drop, getD-drop, getD-take, length-take-le, take-suc-set, drop-set-lt}
-use borrow.Author.Tests.{lt-ltb, le-ltb, ne-eqb}
-use Rattle.text.specs.Ascii.{inside, begins, toBracket}
+use lib.ListN.{length, take, drop, getD, length-drop, drop-of-length-le}
+use lib.Seq.{take-nil, drop-cons, drop-drop, getD-drop, length-take-le}
+use borrow.Author.Tests.{lt-ltb, le-ltb, eqb-true}
+use Rattle.text.specs.Ascii.{is, inside, begins, toBracket}
 use Rattle.quote_tags.specs.Tags.{NextBracket, beginsAny, tagSize}
-use Rattle.quote_tags.proofs.Tagging.{bracket-on, behind-within}
-use Rattle.quote_tags.specs.Masks.{Mask, toCloser, region, shown, masked, code, icode, noparse, visible, Masked, KnownCloser}
+use Rattle.quote_tags.proofs.Tagging.{tag-within, behind-within}
+use Rattle.quote_tags.specs.Masks.{Mask, toCloser, region, blanked, each, shown, masked, code, icode, noparse, visible, Masked, KnownCloser}
 
 -- ---- looking for a closer
 
@@ -94,6 +94,23 @@ closer-within ws (b ∷ s) = by (beginsAny ws (b ∷ s)) (closer-within ws s)
     by true h = omega arith
     by false h = omega arith
 
+pub region-within : (m : Mask) (s : List ℕ) → region m s ≤ length s
+unfolding region
+region-within m s =
+    let k : ℕ = tagSize (m .opens) s in
+    let c : ℕ = toCloser (m .closes) (drop k s) in
+    let z : ℕ = tagSize (m .closes) (drop (k + c) s) in
+    let hk : k ≤ length s = tag-within (m .opens) s in
+    let hc : c ≤ length (drop k s) = closer-within (m .closes) (drop k s) in
+    let hz : z ≤ length (drop (k + c) s) = tag-within (m .closes) (drop (k + c) s) in
+    let lk : length (drop k s) ≡ length s - k = length-drop k s in
+    let lz : length (drop (k + c) s) ≡ length s - (k + c) = length-drop (k + c) s in
+    by (ltb 0 k && ltb 0 z) (omega (arith, hk, hc, hz, lk, lz))
+  where
+    by : (t : Bool) {r : ℕ} → r ≤ length s → cond t r 0 ≤ length s
+    by true h = h
+    by false h = omega arith
+
 -- the same by place
 module _ (m : Mask) (s : List ℕ) (i k q z : ℕ) (ek : k ≡ tagSize (m .opens) (drop i s)) (eq : q ≡ i + k + toCloser (m .closes) (drop (i + k) s)) (ez : z ≡ tagSize (m .closes) (drop q s)) (n : k ≡ 0 → ⊥) where
   from-here : q - i ≡ k + toCloser (m .closes) (drop k (drop i s))
@@ -117,24 +134,38 @@ closer-place ws vs s i k q h ek eq =
 
 -- ---- masking in place
 
--- what is written for a byte
-pub shown-all : (b : ℕ) → b < 256 → shown 0 b ≡ cond (ltb b 256) (b ∷ []) []
-unfolding shown
-shown-all b h = rw (lt-ltb b 256 h)
+-- what is written for a byte of a region
+pub blanked-by : (b : ℕ) {k c : ℕ} → k ≡ cond (inside 0x80 0xBF b) 0 1 → c ≡ cond (is "\n" b) 10 32 → (k ≤ 1) × (blanked b ≡ take k (c ∷ []))
+unfolding blanked inside
+blanked-by b ek ec = rw (ek, ec) (by (is "\n" b) (inside 0x80 0xBF b) (λ p. (eqb-true b 10 p, rw (eqb-true b 10 p))))
+  where
+    by : (t u : Bool) → (t ≡ true → (b ≡ 10) × (u ≡ false)) → (cond u 0 1 ≤ 1) × (cond t (b ∷ []) (cond u [] (32 ∷ [])) ≡ take (cond u 0 1) (cond t 10 32 ∷ []))
+    by true true h = absurd (true≢false (h refl .1))
+    by true false h = (omega arith, rw (h refl .0))
+    by false true h = (omega arith, refl)
+    by false false h = (omega arith, refl)
 
-module _ (left b : ℕ) (h : 0 < left) where
-  pub shown-feed : b ≡ 10 → shown left b ≡ cond (ltb 10 256) (10 ∷ []) []
-  unfolding shown
-  shown-feed e = rw (lt-ltb 0 left h, e)
+module _ (m : Mask) where
+  masked-left : (k : ℕ) (x : List ℕ) → masked m k x ≡ each blanked (take k x) ++ masked m 0 (drop k x)
+  unfolding masked shown each
+  masked-left zero x = refl
+  masked-left (suc k) [] = refl
+  masked-left (suc k) (b ∷ x) =
+      rw (lt-ltb 0 (suc k) (omega arith))
+      (ap (λ (y : List ℕ). blanked b ++ y) (masked-left k x) ∙ sym (append-assoc (blanked b) (each blanked (take k x)) (masked m 0 (drop k x))))
 
-  pub shown-other : {t : Bool} → (b ≡ 10 → ⊥) → t ≡ inside 0x80 0xBF b → shown left b ≡ cond t [] (32 ∷ [])
-  unfolding shown
-  shown-other n e = rw (lt-ltb 0 left h, ne-eqb b 10 n, e)
+  masked-opened : (x : List ℕ) {k : ℕ} → k ≡ region m x → (k ≡ 0 → ⊥) → masked m 0 x ≡ masked m k x
+  unfolding masked
+  masked-opened [] e n = refl
+  masked-opened (b ∷ x) {k} e n = rw (← e) (by k n)
+    where
+      by : (k : ℕ) → (k ≡ 0 → ⊥) → shown k b ++ masked m (k - 1) x ≡ masked m k (b ∷ x)
+      by zero n = absurd (n refl)
+      by (suc k) n = let z : suc k - 1 ≡ k = omega arith in rw z
 
-masked-turn : (m : Mask) (left b : ℕ) (s : List ℕ) → masked m left (b ∷ s) ≡ shown (cond (ltb 0 left) left (region m (b ∷ s))) b ++ masked m (cond (ltb 0 left) left (region m (b ∷ s)) - 1) s
-unfolding masked
-masked-turn m zero b s = refl
-masked-turn m (suc left) b s = let e : suc left - 1 ≡ left = omega arith in rw (lt-ltb 0 (suc left) (omega arith), e)
+  -- a region becomes blanks, and the text goes on behind it
+  pub masked-region : (x : List ℕ) {k : ℕ} → k ≡ region m x → (k ≡ 0 → ⊥) → masked m 0 x ≡ each blanked (take k x) ++ masked m 0 (drop k x)
+  masked-region x {k} e n = masked-opened x e n ∙ masked-left k x
 
 pub drop-take-take : (j n : ℕ) (zs : List ℕ) → drop j (take n zs) ≡ take (n - j) (drop j zs)
 drop-take-take zero n zs = rw sub-zero
@@ -155,16 +186,16 @@ first-of xs ys k p =
     let c : getD (drop k ys) 0 0 ≡ getD ys k 0 = rw (getD-drop k ys 0 0, add-zero) in
     sym a ∙ ap (λ (l : List ℕ). getD l 0 0) p ∙ c
 
-pub record Masking (m : Mask) (s : List ℕ) (n : ℕ) (buf : List ℕ) (i to left b f q : ℕ) : Type 0 where
+pub record Masking (m : Mask) (s : List ℕ) (n : ℕ) (buf : List ℕ) (i to b f q : ℕ) : Type 0 where
   pub same : length buf ≡ length s
   pub order : to ≤ i
   pub inside : i ≤ n
   pub rest : drop i buf ≡ drop i s
-  pub text : take to buf ++ masked m left (drop i (take n s)) ≡ masked m 0 (take n s)
+  pub text : take to buf ++ masked m 0 (drop i (take n s)) ≡ masked m 0 (take n s)
   pub bracket : NextBracket (take n s) i b
   pub closer : KnownCloser (m .closes) (take n s) i f q
 
-pub begin : (m : Mask) (s : List ℕ) (n b : ℕ) → b ≡ 0 + toBracket (drop 0 (take n s)) → Masking m s n s 0 0 0 b 1 0
+pub begin : (m : Mask) (s : List ℕ) (n b : ℕ) → b ≡ 0 + toBracket (drop 0 (take n s)) → Masking m s n s 0 0 b 1 0
 begin m s n b e = record {
   same = refl;
   order = omega arith;
@@ -175,7 +206,7 @@ begin m s n b e = record {
   closer = record { at = λ j h g l. absurd (omega arith) };
 }
 
-module _ {m : Mask} {s : List ℕ} {n : ℕ} {buf : List ℕ} {i to left b f q : ℕ} (w : Masking m s n buf i to left b f q) where
+module _ {m : Mask} {s : List ℕ} {n : ℕ} {buf : List ℕ} {i to b f q : ℕ} (w : Masking m s n buf i to b f q) where
   -- what is known of the text is known of what is left in place
   pub bracket-now : NextBracket (take n buf) i b
   bracket-now h = w .bracket h ∙ ap (λ (l : List ℕ). i + toBracket l) (unread i i n s buf (sym (w .rest)) (omega arith))
@@ -188,62 +219,20 @@ module _ {m : Mask} {s : List ℕ} {n : ℕ} {buf : List ℕ} {i to left b f q :
   finished le ls =
       let k : length (take n s) ≡ n = length-take-le n s ls in
       let d : drop i (take n s) ≡ [] = drop-of-length-le (take n s) {i = i} (omega arith) in
-      let z : masked m left (drop i (take n s)) ≡ [] = rw d in
+      let z : masked m 0 (drop i (take n s)) ≡ [] = rw d in
       record { short = omega (arith, w .order, w .inside); text = sym (append-nil (take to buf)) ∙ ap (λ (l : List ℕ). take to buf ++ l) (sym z) ∙ w .text }
 
-  module _ (lt : i < n) (le : n ≤ length s) {size b' f' q' : ℕ} (byte : ℕ) (es : size ≡ cond (ltb 0 left) left (region m (drop i (take n buf)))) (nb : NextBracket (take n buf) i b') (kc : KnownCloser (m .closes) (take n buf) i f' q')
-      (eb : shown size (getD buf i 0) ≡ cond (ltb byte 256) (byte ∷ []) []) where
-    long : length (take n s) ≡ n
-    long = length-take-le n s le
-
-    step : masked m left (drop i (take n s)) ≡ cond (ltb byte 256) (byte ∷ []) [] ++ masked m (size - 1) (drop (i + 1) (take n s))
-    step =
-        let l = long in
-        let u : drop i (take n buf) ≡ drop i (take n s) = unread i i n buf s (w .rest) (omega arith) in
-        let x : getD buf i 0 ≡ getD (take n s) i 0 = first-of buf s i (w .rest) ∙ sym (getD-take n s i 0 lt) in
-        let d : drop i (take n s) ≡ getD (take n s) i 0 ∷ drop (suc i) (take n s) = drop-cons (take n s) i 0 (omega arith) in
-        let z : size ≡ cond (ltb 0 left) left (region m (getD (take n s) i 0 ∷ drop (suc i) (take n s))) = es ∙ ap (λ (l : List ℕ). cond (ltb 0 left) left (region m l)) (u ∙ d) in
-        ap (masked m left) d ∙ masked-turn m left (getD (take n s) i 0) (drop (suc i) (take n s)) ∙ rw (← z, ← x, eb, add-one)
-
-    further : drop (i + 1) buf ≡ drop (i + 1) s
-    further = sym (drop-drop 1 i buf) ∙ ap (drop 1) (w .rest) ∙ drop-drop 1 i s
-
-    next-bracket : NextBracket (take n s) (i + 1) b'
-    next-bracket h =
-        let l = long in
-        let e : b' ≡ i + toBracket (drop i (take n s)) = nb (omega arith) ∙ ap (λ (x : List ℕ). i + toBracket x) (unread i i n buf s (w .rest) (omega arith)) in
-        bracket-on (take n s) i b' (omega arith) e (omega arith) h
-
-    next-closer : KnownCloser (m .closes) (take n s) (i + 1) f' q'
-    next-closer = record { at = λ j h g l. kc .at j (omega arith) g l ∙ ap (λ (x : List ℕ). j + toCloser (m .closes) x) (unread i j n buf s (w .rest) (omega arith)) }
-
-    pub wrote : byte < 256 → Masking m s n (set buf to byte) (i + 1) (to + 1) (size - 1) b' f' q'
-    wrote h =
-        let z : to < length buf = omega (arith, w .same, w .order) in
-        let e : masked m left (drop i (take n s)) ≡ (byte ∷ []) ++ masked m (size - 1) (drop (i + 1) (take n s)) = step ∙ rw (lt-ltb byte 256 h) in
-        record {
-          same = length-set buf to byte ∙ w .same;
-          order = omega (arith, w .order);
-          inside = omega arith;
-          rest = drop-set-lt (i + 1) buf to byte (omega (arith, w .order)) ∙ further;
-          text = rw (add-one to, take-suc-set buf to byte z)
-              (append-assoc (take to buf) (byte ∷ []) (masked m (size - 1) (drop (i + 1) (take n s))) ∙ ap (λ (l : List ℕ). take to buf ++ l) (sym e) ∙ w .text);
-          bracket = next-bracket;
-          closer = next-closer;
-        }
-
-    pub left-out : 256 ≤ byte → Masking m s n buf (i + 1) to (size - 1) b' f' q'
-    left-out h =
-        let e : masked m left (drop i (take n s)) ≡ masked m (size - 1) (drop (i + 1) (take n s)) = step ∙ rw (le-ltb byte 256 h) in
-        record {
-          same = w .same;
-          order = omega (arith, w .order);
-          inside = omega arith;
-          rest = further;
-          text = ap (λ (l : List ℕ). take to buf ++ l) (sym e) ∙ w .text;
-          bracket = next-bracket;
-          closer = next-closer;
-        }
+  -- and the other way round
+  pub known : {b' f' q' : ℕ} → NextBracket (take n buf) i b' → KnownCloser (m .closes) (take n buf) i f' q' → Masking m s n buf i to b' f' q'
+  known nb kc = record {
+    same = w .same;
+    order = w .order;
+    inside = w .inside;
+    rest = w .rest;
+    text = w .text;
+    bracket = λ h. nb h ∙ ap (λ (l : List ℕ). i + toBracket l) (unread i i n buf s (w .rest) (omega arith));
+    closer = record { at = λ j h g l. kc .at j h g l ∙ ap (λ (x : List ℕ). j + toCloser (m .closes) x) (unread i j n buf s (w .rest) h) };
+  }
 
 -- ---- all masks
 

@@ -3,14 +3,13 @@ use mathlib.Core.Path.{_≡_, refl, sym, _∙_}
 use Prim.Native.Nat.{ℕ, zero, suc, _+_, _-_, _≤_, _<_}
 use native.Mathlib.Omega.{arith}
 use native.Mathlib.Decide.{decLe}
-use native.Mathlib.Numerals.{add-one}
 use mathlib.Core.Bool.{Bool, true, false, cond, _||_}
 use mathlib.Core.List.{List, [], _∷_}
-use lib.ListN.{length, take, drop, getD, length-drop}
-use lib.Seq.{drop-cons, drop-drop, take-take, length-take-le}
+use lib.ListN.{length, take, drop, length-drop}
+use lib.Seq.{drop-drop, take-take, length-take-le}
 use lib.Dec.{ltb}
 use borrow.Author.Tests.{lt-ltb, le-ltb}
-use Rattle.text.specs.Ascii.{begins, toFirst, toBracket, is}
+use Rattle.text.specs.Ascii.{begins, toBracket}
 use Rattle.quote_tags.specs.Tags.{upToBracket, beginsAny, tagSize, openers, openerSize, attributionOf}
 
 -- ---- up to the `]` at b
@@ -28,15 +27,6 @@ module _ (s : List ℕ) (i b : ℕ) (h : i ≤ length s) (e : b ≡ i + toBracke
   up-to-none le =
       let l : length (drop i s) ≡ length s - i = length-drop i s in
       rw (le-ltb (toBracket (drop i s)) (length (drop i s)) (omega arith))
-
-  -- the same `]` from the next place on
-  pub bracket-on : i < length s → i + 1 ≤ b → b ≡ i + 1 + toBracket (drop (i + 1) s)
-  unfolding toBracket toFirst
-  bracket-on lt le = by (is "]" (getD s i 0)) refl
-    where
-      by : (t : Bool) → is "]" (getD s i 0) ≡ t → b ≡ i + 1 + toFirst (is "]") (drop (i + 1) s)
-      by true q = let z : toFirst (is "]") (drop i s) ≡ 0 = rw (drop-cons s i 0 lt, q) in absurd (omega (arith, e, z))
-      by false q = let z : toFirst (is "]") (drop i s) ≡ suc (toFirst (is "]") (drop (i + 1) s)) = rw (add-one, drop-cons s i 0 lt, q) in omega (arith, e, z)
 
 -- a tag is no longer than the text
 pub up-to-within : (s : List ℕ) → upToBracket s ≤ length s

@@ -5,6 +5,7 @@
 --   toCloser ws s       how many bytes of s stand before the first of the closers ws; all where there is none
 --   region m s          how many bytes the masked region has that s begins with; 0 for none
 --   blanked b           a byte of a region: a line feed stays, a character's first byte becomes a space, its others go
+--   each f s            f b for every byte b of s, one after the other
 --   NoMask s            s begins with no masked region
 --   NoOpener a b s      s does not begin with `[` and the letter a as second or b as third byte, in either case: the bit 32 is set to compare
 --   masked m left s     s masked by m, where the first `left` bytes are the rest of a region
@@ -52,8 +53,12 @@ NoMask s = (region code s ≡ 0) × (region icode s ≡ 0) × (region noparse s 
 unfoldable pub NoOpener : (a b : ℕ) → List ℕ → Type 0
 NoOpener a b s = (is "[" (getD s 0 0) && (eqb (bitOr (getD s 1 0) 32) a || eqb (bitOr (getD s 2 0) 32) b)) ≡ false
 
-abbrev pub blanked : ℕ → List ℕ
+unfoldable pub blanked : ℕ → List ℕ
 blanked b = cond (is "\n" b) (b ∷ []) (cond (inside 0x80 0xBF b) [] (32 ∷ []))
+
+unfoldable pub each : (ℕ → List ℕ) → List ℕ → List ℕ
+each f [] = []
+each f (b ∷ s) = f b ++ each f s
 
 -- a byte where so many bytes of a region are left
 unfoldable pub shown : (left : ℕ) → ℕ → List ℕ
@@ -72,10 +77,10 @@ pub record Masked (m : Mask) (n : ℕ) (before : List ℕ) (r : ℕ) (after : Li
   pub short : r ≤ n
   pub text : take r after ≡ masked m 0 (take n before)
 
--- in code: the bytes from a up to e have been moved down to a place before them, up to r
-pub record MovedDown (before : List ℕ) (a e to : ℕ) (after : List ℕ) (r : ℕ) : Type 0 where
-  pub end : r ≡ to + (e - a)
-  pub text : take r after ≡ take to before ++ take (e - a) (drop a before)
+-- in code: f b has been written for each byte b from a up to e, from a place `to` before them on up to r
+pub record Rewritten (f : ℕ → List ℕ) (before : List ℕ) (a e to : ℕ) (after : List ℕ) (r : ℕ) : Type 0 where
+  pub short : r ≤ to + (e - a)
+  pub text : take r after ≡ take to before ++ each f (take (e - a) (drop a before))
   pub rest : drop e after ≡ drop e before
 
 -- where it is known, from place i on, that the first closer from a place between a and q on stands at q, or that none stands there
@@ -84,5 +89,5 @@ pub record KnownCloser (ws : List (List ℕ)) (s : List ℕ) (i a q : ℕ) : Typ
 
 -- all of this module, for `unfolding` where a closed text is to be computed
 unfoldable pub computes : Unit {0}
-unfolding code icode noparse toCloser region shown masked visible
+unfolding code icode noparse toCloser region blanked shown masked visible
 computes = tt

@@ -13,10 +13,9 @@ ghost use mathlib.Core.Bool.{cond, false};
 ghost use mathlib.Core.List.{List, [], _∷_};
 ghost use Prim.Native.Nat.{ℕ, _+_, _-_, _≤_, _<_};
 ghost use lib.ListN.{length, take, drop, getD};
-ghost use lib.Dec.{ltb};
-ghost use Rattle.text.specs.Ascii.{toBracket};
+ghost use Rattle.text.specs.Ascii.{is, inside, toBracket};
 ghost use Rattle.quote_tags.specs.Tags.{NextBracket, beginsAny, tagSize};
-ghost use Rattle.quote_tags.specs.Masks.{toCloser, region, shown, Masked, MovedDown, KnownCloser, visible, NoMask, NoOpener};
+ghost use Rattle.quote_tags.specs.Masks.{toCloser, region, blanked, Masked, Rewritten, KnownCloser, visible, NoMask, NoOpener};
 
 // Whether the text from a place on begins with one of two words.
 fn begins_either(s: &[u8], at: PostAt, first: &[u8], second: &[u8]) -> bool
@@ -137,45 +136,24 @@ fn region_at(
     }
 }
 
-// How much of a region is left at a place: of the one that goes on, else of the one that begins.
-fn region_left(
-    s: &[u8],
-    at: PostAt,
-    left: usize,
-    bracket: PostAt,
-    closer: Closer,
-    opener: &[u8],
-    opener2: &[u8],
-    first: &[u8],
-    second: &[u8],
-) -> Region
-    requires { ⌜ (at .0 < length (now s)) × (NextBracket (now s) (at .0) (bracket .0) × KnownCloser (now first ∷ now second ∷ []) (now s) (at .0) (closer .from .0) (closer .at .0)) ⌝ }
-    ensures { λ r. ⌜ (r .size ≡ cond (ltb 0 left) left (region (record { opens = now (opener .entry) ∷ now (opener2 .entry) ∷ []; closes = now (first .entry) ∷ now (second .entry) ∷ [] }) (drop (at .0) (now (s .entry))))) × (NextBracket (now (s .entry)) (at .0) (r .bracket .0) × KnownCloser (now (first .entry) ∷ now (second .entry) ∷ []) (now (s .entry)) (at .0) (r .closer .from .0) (r .closer .at .0)) ⌝ }
+// What stands in a region for a character that begins with a byte: line feeds are kept.
+fn blank_for(b: u8) -> u8
+    ensures { λ r. ⌜ r ≡ cond (is "\n" b) 10 32 ⌝ }
 {
-    if 0 < left {
-        return Region {
-            size: left,
-            bracket,
-            closer,
-        };
+    if b == b'\n' {
+        return 10;
     }
-    region_at(s, at, bracket, closer, opener, opener2, first, second)
+    32
 }
 
-// The byte that stands for b where so many bytes of a region are left; 256 for none.
-fn byte_for(left: usize, b: u8) -> usize
-    ensures { λ r. ⌜ shown left b ≡ cond (ltb r 256) (r ∷ []) [] ⌝ }
+// How many characters begin with a byte: one or none.
+fn characters_by(b: u8) -> usize
+    ensures { λ r. ⌜ r ≡ cond (inside 0x80 0xBF b) 0 1 ⌝ }
 {
-    if 0 < left {
-        if b == b'\n' {
-            return 10;
-        }
-        if is_inside(0x80, 0xbf, b) {
-            return 256;
-        }
-        return 32;
+    if is_inside(0x80, 0xbf, b) {
+        return 0;
     }
-    b as usize
+    1
 }
 
 // Whether a word that opens a mask may begin with these bytes: `[c`, `[n`, or `[i` and no `]`. (Of 16 places at once a machine tells `]` from
@@ -285,21 +263,10 @@ fn next_opener(s: &[u8], at: PostAt, letter2: u8, letter3: u8) -> PostAt
     PostAt(i)
 }
 
-// The end of a run that no region begins in: the next place where one may, and within a region the place itself.
-fn run_end(s: &[u8], at: PostAt, left: usize, letter2: u8, letter3: u8) -> PostAt
-    requires { ⌜ at .0 ≤ length (now s) ⌝ }
-    ensures { λ r. ⌜ ((at .0 ≤ r .0) × (r .0 ≤ length (now (s .entry)))) × ((j : ℕ) → at .0 ≤ j → j < r .0 → (left ≡ 0) × NoOpener letter2 letter3 (drop j (now (s .entry)))) ⌝ }
-{
-    if 0 < left {
-        return at;
-    }
-    next_opener(s, at, letter2, letter3)
-}
-
 // Moves the bytes from a up to e down to a place before them, and returns the place behind them.
 fn move_down(buf: &mut [u8], a: usize, e: usize, to: usize) -> usize
     requires { ⌜ (to ≤ a) × ((a ≤ e) × (e ≤ length (now buf))) ⌝ }
-    ensures { λ r. ⌜ MovedDown (now (buf .entry)) a e to (now (buf .exit)) r ⌝ }
+    ensures { λ r. ⌜ Rewritten (λ b. b ∷ []) (now (buf .entry)) a e to (now (buf .exit)) r ⌝ }
 {
     if to == a {
         return e;
@@ -314,13 +281,21 @@ fn move_down(buf: &mut [u8], a: usize, e: usize, to: usize) -> usize
     t
 }
 
-fn one_less(left: usize) -> usize
-    ensures { λ r. ⌜ r ≡ left - 1 ⌝ }
+// Writes a blank for each character from a up to e, from a place before them on, and returns the place behind the blanks. (What is written for a
+// byte that begins none is written over: a branch on the byte is mispredicted.)
+fn blank_out(buf: &mut [u8], a: usize, e: usize, to: usize) -> usize
+    requires { ⌜ (to ≤ a) × ((a ≤ e) × (e ≤ length (now buf))) ⌝ }
+    ensures { λ r. ⌜ Rewritten blanked (now (buf .entry)) a e to (now (buf .exit)) r ⌝ }
 {
-    if left == 0 {
-        return 0;
+    let mut i = a;
+    let mut t = to;
+    while i < e {
+        let b = buf[i];
+        buf[t] = blank_for(b);
+        t += characters_by(b);
+        i += 1;
     }
-    left - 1
+    t
 }
 
 // Masks the first n bytes by one of the three masks: openers and closers are one of two words each, and openers are looked for by the letters.
@@ -340,23 +315,21 @@ fn mask(
 {
     let mut i: usize = 0;
     let mut to: usize = 0;
-    let mut left: usize = 0;
     let mut bracket = next_bracket(&buf[..n], PostAt(0));
     let mut closer = Closer {
         from: PostAt(1),
         at: PostAt(0),
     };
     while i < n {
-        let next = run_end(&buf[..n], PostAt(i), left, letter2, letter3);
+        let next = next_opener(&buf[..n], PostAt(i), letter2, letter3);
         to = move_down(buf, i, next.0, to);
         i = next.0;
         if n <= i {
             return to;
         }
-        let here = region_left(
+        let here = region_at(
             &buf[..n],
             PostAt(i),
-            left,
             bracket,
             closer,
             opener,
@@ -367,13 +340,13 @@ fn mask(
         bracket = here.bracket;
         closer = here.closer;
         let size = here.size;
-        let byte = byte_for(size, buf[i]);
-        if byte < 256 {
-            buf[to] = byte as u8;
-            to += 1;
+        if size == 0 {
+            to = move_down(buf, i, i + 1, to);
+            i += 1;
+        } else {
+            to = blank_out(buf, i, i + size, to);
+            i += size;
         }
-        left = one_less(size);
-        i += 1;
     }
     to
 }
