@@ -8,22 +8,25 @@ use crate::{
 };
 use std::{hint::black_box, time::Duration};
 
-/// How much time a contender's samples take together.
+/// How much time the least of a contender's samples is looked for.
 const EACH: Duration = Duration::from_millis(300);
+/// How long a sample is where contenders are timed on one post: what another one left in the caches is a small part of it.
+const LONG: Duration = Duration::from_millis(2);
+/// How long it is where lengths of a post are: a call or few, so that the short post too finds the caches as the long one left them. Else its growth
+/// would be that from one cache to the next.
+const SHORT: Duration = Duration::from_micros(200);
 /// A contender that takes longer than a quarter of this for a post is not given a longer one.
 const PATIENCE: Duration = Duration::from_millis(600);
 
 pub const MOST: usize = 262_144;
 
-/// Nanoseconds of one call on posts of one length, and the ratios to what was timed in turns with it.
+/// Nanoseconds of one call on posts of one length.
 pub struct Forum {
     pub n: usize,
     pub carve: f64,
     pub original: f64,
     pub cmark: f64,
     pub memcpy: f64,
-    pub cmark_by_carve: f64,
-    pub carve_by_memcpy: f64,
 }
 
 /// A contender on the longest post that it was given, beside the proved converter on the same one.
@@ -38,10 +41,8 @@ pub struct Beside {
 pub struct Hard {
     pub family: &'static Family,
     pub number: u32,
-    /// The proved converter at 262,144 bytes.
-    pub carve: f64,
-    /// Its time at 131,072 by that at 65,536 bytes, and at 262,144 by that at 131,072.
-    pub growths: [f64; 2],
+    /// The proved converter at 65,536, 131,072 and 262,144 bytes.
+    pub carve: [f64; 3],
     /// Copying the result's cells at 262,144 bytes, where there is a result.
     pub memcpy: Option<f64>,
     pub original: Beside,
@@ -51,7 +52,7 @@ pub struct Hard {
 impl Hard {
     /// The greater of the two growths.
     pub fn growth(&self) -> f64 {
-        self.growths[0].max(self.growths[1])
+        (self.carve[1] / self.carve[0]).max(self.carve[2] / self.carve[1])
     }
 }
 
@@ -89,6 +90,7 @@ fn forum(n: usize) -> Forum {
     let mut result = Lent::for_post(&post);
     assert_eq!(result.convert(&post), 0, "a forum-like post is converted");
     let times = time::in_turns(
+        LONG,
         EACH,
         &mut [
             &mut || {
@@ -101,15 +103,7 @@ fn forum(n: usize) -> Forum {
     let original = time::bounded(4 * PATIENCE, || {
         black_box(oracle::post(black_box(string(&post))));
     });
-    Forum {
-        n,
-        carve: times.of(0),
-        original,
-        cmark: times.of(1),
-        memcpy: times.of(2),
-        cmark_by_carve: times.ratio(1, 0),
-        carve_by_memcpy: times.ratio(0, 2),
-    }
+    Forum { n, carve: times[0], cmark: times[1], memcpy: times[2], original }
 }
 
 /// Gives a contender posts of doubled length, up to the greatest, as long as it stays within `PATIENCE`.
@@ -122,12 +116,12 @@ fn beside(family: &Family, mut call: impl FnMut(&[u8])) -> Beside {
         if n == MOST || its > PATIENCE.as_nanos() as f64 / 4.0 {
             let mut lent = Lent::for_post(&post);
             let carve = time::in_turns(
+                LONG,
                 EACH / 4,
                 &mut [&mut || {
                     black_box(lent.convert(black_box(&post)));
                 }],
-            )
-            .of(0);
+            )[0];
             return Beside { n, its, carve, growth: its / half };
         }
         (n, half) = (2 * n, its);
@@ -140,6 +134,7 @@ fn hard(family: &'static Family) -> Hard {
     let number = lent[2].convert(&posts[2]);
     let [a, b, c] = &mut lent;
     let times = time::in_turns(
+        SHORT,
         EACH,
         &mut [
             &mut || {
@@ -154,14 +149,13 @@ fn hard(family: &'static Family) -> Hard {
         ],
     );
     let mut cells = (vec![0; c.out.len()], vec![0; c.out.len()]);
-    let memcpy = (number == 0).then(|| time::in_turns(EACH / 8, &mut [&mut || copy(black_box(c), &mut cells)]).of(0));
+    let memcpy = (number == 0).then(|| time::in_turns(LONG, EACH / 8, &mut [&mut || copy(black_box(c), &mut cells)])[0]);
     let short = (family.make)(4096);
     agree(family.name, &short, &mut Lent::for_post(&short));
     Hard {
         family,
         number,
-        carve: times.of(2),
-        growths: [times.ratio(1, 0), times.ratio(2, 1)],
+        carve: [times[0], times[1], times[2]],
         memcpy,
         original: beside(family, |post| {
             black_box(oracle::post(string(post)));
@@ -174,13 +168,13 @@ fn hard(family: &'static Family) -> Hard {
 pub fn all() -> Runs {
     let forum: Vec<Forum> = [1024, 65_536, MOST].map(forum).into_iter().collect();
     for f in &forum {
-        eprintln!("forum-like, {} bytes: {:.2} ns a byte, {:.0} times the original, {:.2} times cmark", f.n, f.carve / f.n as f64, f.original / f.carve, f.cmark_by_carve);
+        eprintln!("forum-like, {} bytes: {:.2} ns a byte, {:.0} times the original, {:.2} times cmark", f.n, f.carve / f.n as f64, f.original / f.carve, f.cmark / f.carve);
     }
     let hard = posts::FAMILIES
         .iter()
         .map(|family| {
             let h = hard(family);
-            eprintln!("{}: answer {}, {:.2} ns a byte, growth {:.2}", family.name, h.number, h.carve / MOST as f64, h.growth());
+            eprintln!("{}: answer {}, {:.2} ns a byte, growth {:.2}", family.name, h.number, h.carve[2] / MOST as f64, h.growth());
             h
         })
         .collect();

@@ -45,7 +45,7 @@ fn met(yes: bool) -> &'static str {
 
 fn targets(runs: &Runs) -> String {
     let forum = runs.forum.iter().find(|f| f.n == 65_536).expect("64 KiB are timed");
-    let (original, cmark) = (forum.original / forum.carve, forum.cmark_by_carve);
+    let (original, cmark) = (forum.original / forum.carve, forum.cmark / forum.carve);
     let worst = |search: bool| {
         runs.hard
             .iter()
@@ -83,8 +83,8 @@ fn forum(runs: &Runs) -> String {
             grouped(f.n as u64),
             short(f.carve / f.n as f64),
             short(f.original / f.carve),
-            short(f.cmark_by_carve),
-            short(f.carve_by_memcpy)
+            short(f.cmark / f.carve),
+            short(f.carve / f.memcpy)
         )
         .expect("a String takes all");
     }
@@ -100,10 +100,10 @@ fn row(h: &Hard) -> String {
         "| {} | {} | {} | {} | {} | {} | {} | {} |\n",
         h.family.name,
         h.number,
-        short(h.carve / MOST as f64),
-        short(h.growths[0]),
-        short(h.growths[1]),
-        h.memcpy.map_or("".into(), |m| short(h.carve / m)),
+        short(h.carve[2] / MOST as f64),
+        short(h.carve[1] / h.carve[0]),
+        short(h.carve[2] / h.carve[1]),
+        h.memcpy.map_or("".into(), |m| short(h.carve[2] / m)),
         beside(&h.original),
         beside(&h.cmark)
     )

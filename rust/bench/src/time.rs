@@ -1,4 +1,4 @@
-//! Processor time: samples of contenders that take turns, their medians and the medians of their ratios.
+//! Processor time: the least of many samples, with contenders taking turns.
 
 use std::{
     ffi::{c_int, c_long},
@@ -34,47 +34,29 @@ fn sample(calls: u32, call: &mut dyn FnMut()) -> f64 {
     (now() - start) / f64::from(calls)
 }
 
-/// How many calls make a sample of at least two milliseconds: what another contender left in the caches is then a small part of it.
-fn calls_in_a_sample(call: &mut dyn FnMut()) -> u32 {
+/// How many calls make a sample of at least this length.
+fn calls_in_a_sample(length: Duration, call: &mut dyn FnMut()) -> u32 {
     let mut calls = 1;
-    while sample(calls, call) * f64::from(calls) < 2_000_000.0 {
+    while sample(calls, call) * f64::from(calls) < length.as_nanos() as f64 {
         calls *= 2;
     }
     calls
 }
 
-/// The middle one of some numbers.
-fn median(mut of: Vec<f64>) -> f64 {
-    of.sort_by(f64::total_cmp);
-    of[of.len() / 2]
-}
-
-/// Nanoseconds of a call, by contender and round.
-pub struct Samples(Vec<Vec<f64>>);
-
-impl Samples {
-    /// Nanoseconds of a contender's call.
-    pub fn of(&self, contender: usize) -> f64 {
-        median(self.0[contender].clone())
-    }
-
-    /// How many times as long as b's calls a's are. Two samples of one round are compared, so that the machine's clock may be another in the next.
-    pub fn ratio(&self, a: usize, b: usize) -> f64 {
-        median(self.0[a].iter().zip(&self.0[b]).map(|(a, b)| a / b).collect())
-    }
-}
-
-/// Samples of contenders that take turns, in as many rounds as fit into `each` for each of them (seven at least).
-pub fn in_turns(each: Duration, contenders: &mut [&mut dyn FnMut()]) -> Samples {
-    let calls: Vec<u32> = contenders.iter_mut().map(|c| calls_in_a_sample(*c)).collect();
-    let mut samples = vec![Vec::new(); contenders.len()];
+/// Nanoseconds of a call of each contender: the least sample of those that fit into `each` (fifteen at least, so that a long call too has one
+/// that nothing disturbed). They take turns, so that what disturbs the machine disturbs them all.
+pub fn in_turns(length: Duration, each: Duration, contenders: &mut [&mut dyn FnMut()]) -> Vec<f64> {
+    let calls: Vec<u32> = contenders.iter_mut().map(|c| calls_in_a_sample(length, *c)).collect();
+    let mut least = vec![f64::INFINITY; contenders.len()];
     let until = now() + each.as_nanos() as f64 * contenders.len() as f64;
-    while samples[0].len() < 7 || now() < until {
-        for ((contender, calls), samples) in contenders.iter_mut().zip(&calls).zip(&mut samples) {
-            samples.push(sample(*calls, *contender));
+    let mut rounds = 0;
+    while rounds < 15 || now() < until {
+        for ((contender, calls), least) in contenders.iter_mut().zip(&calls).zip(&mut least) {
+            *least = least.min(sample(*calls, *contender));
         }
+        rounds += 1;
     }
-    Samples(samples)
+    least
 }
 
 /// Nanoseconds of one call; the least of up to five, as long as they fit into `within`.
