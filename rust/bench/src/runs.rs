@@ -9,12 +9,7 @@ use crate::{
 use std::{hint::black_box, time::Duration};
 
 /// How much time the least of a contender's samples is looked for.
-const EACH: Duration = Duration::from_millis(300);
-/// How long a sample is where contenders are timed on one post: what another one left in the caches is a small part of it.
-const LONG: Duration = Duration::from_millis(2);
-/// How long it is where lengths of a post are: a call or few, so that the short post too finds the caches as the long one left them. Else its growth
-/// would be that from one cache to the next.
-const SHORT: Duration = Duration::from_micros(200);
+const EACH: Duration = Duration::from_millis(150);
 /// A contender that takes longer than a quarter of this for a post is not given a longer one.
 const PATIENCE: Duration = Duration::from_millis(600);
 
@@ -27,6 +22,8 @@ pub struct Forum {
     pub original: f64,
     pub cmark: f64,
     pub memcpy: f64,
+    /// cmark's time by the proved converter's, where each makes its calls in a row.
+    pub in_a_row: f64,
 }
 
 /// A contender on the longest post that it was given, beside the proved converter on the same one.
@@ -90,7 +87,6 @@ fn forum(n: usize) -> Forum {
     let mut result = Lent::for_post(&post);
     assert_eq!(result.convert(&post), 0, "a forum-like post is converted");
     let times = time::in_turns(
-        LONG,
         EACH,
         &mut [
             &mut || {
@@ -100,10 +96,19 @@ fn forum(n: usize) -> Forum {
             &mut || copy(black_box(&result), &mut cells),
         ],
     );
+    let row = time::in_a_row(
+        EACH,
+        &mut [
+            &mut || {
+                black_box(lent.convert(black_box(&post)));
+            },
+            &mut || cmark::convert(black_box(&post)),
+        ],
+    );
     let original = time::bounded(4 * PATIENCE, || {
         black_box(oracle::post(black_box(string(&post))));
     });
-    Forum { n, carve: times[0], cmark: times[1], memcpy: times[2], original }
+    Forum { n, carve: times[0], cmark: times[1], memcpy: times[2], original, in_a_row: row[1] / row[0] }
 }
 
 /// Gives a contender posts of doubled length, up to the greatest, as long as it stays within `PATIENCE`.
@@ -116,8 +121,7 @@ fn beside(family: &Family, mut call: impl FnMut(&[u8])) -> Beside {
         if n == MOST || its > PATIENCE.as_nanos() as f64 / 4.0 {
             let mut lent = Lent::for_post(&post);
             let carve = time::in_turns(
-                LONG,
-                EACH / 4,
+                EACH / 2,
                 &mut [&mut || {
                     black_box(lent.convert(black_box(&post)));
                 }],
@@ -134,7 +138,6 @@ fn hard(family: &'static Family) -> Hard {
     let number = lent[2].convert(&posts[2]);
     let [a, b, c] = &mut lent;
     let times = time::in_turns(
-        SHORT,
         EACH,
         &mut [
             &mut || {
@@ -149,7 +152,7 @@ fn hard(family: &'static Family) -> Hard {
         ],
     );
     let mut cells = (vec![0; c.out.len()], vec![0; c.out.len()]);
-    let memcpy = (number == 0).then(|| time::in_turns(LONG, EACH / 8, &mut [&mut || copy(black_box(c), &mut cells)])[0]);
+    let memcpy = (number == 0).then(|| time::in_turns(EACH / 4, &mut [&mut || copy(black_box(c), &mut cells)])[0]);
     let short = (family.make)(4096);
     agree(family.name, &short, &mut Lent::for_post(&short));
     Hard {
@@ -168,7 +171,7 @@ fn hard(family: &'static Family) -> Hard {
 pub fn all() -> Runs {
     let forum: Vec<Forum> = [1024, 65_536, MOST].map(forum).into_iter().collect();
     for f in &forum {
-        eprintln!("forum-like, {} bytes: {:.2} ns a byte, {:.0} times the original, {:.2} times cmark", f.n, f.carve / f.n as f64, f.original / f.carve, f.cmark / f.carve);
+        eprintln!("forum-like, {} bytes: {:.2} ns a byte, {:.0} times the original, {:.2} times cmark ({:.2} in a row)", f.n, f.carve / f.n as f64, f.original / f.carve, f.cmark / f.carve, f.in_a_row);
     }
     let hard = posts::FAMILIES
         .iter()

@@ -74,16 +74,17 @@ fn targets(runs: &Runs) -> String {
 
 fn forum(runs: &Runs) -> String {
     let mut out = String::from(
-        "### Forum-like posts\n\n| bytes | libcarve, ns a byte | Rust original / libcarve | cmark / libcarve | libcarve / memcpy |\n|---:|---:|---:|---:|---:|\n",
+        "### Forum-like posts\n\n| bytes | libcarve, ns a byte | Rust original / libcarve | cmark / libcarve | the same, calls in a row | libcarve / memcpy |\n|---:|---:|---:|---:|---:|---:|\n",
     );
     for f in &runs.forum {
         writeln!(
             out,
-            "| {} | {} | {} | {} | {} |",
+            "| {} | {} | {} | {} | {} | {} |",
             grouped(f.n as u64),
             short(f.carve / f.n as f64),
             short(f.original / f.carve),
             short(f.cmark / f.carve),
+            short(f.in_a_row),
             short(f.carve / f.memcpy)
         )
         .expect("a String takes all");

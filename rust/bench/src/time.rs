@@ -43,9 +43,19 @@ fn calls_in_a_sample(length: Duration, call: &mut dyn FnMut()) -> u32 {
     calls
 }
 
-/// Nanoseconds of a call of each contender: the least sample of those that fit into `each` (fifteen at least, so that a long call too has one
-/// that nothing disturbed). They take turns, so that what disturbs the machine disturbs them all.
-pub fn in_turns(length: Duration, each: Duration, contenders: &mut [&mut dyn FnMut()]) -> Vec<f64> {
+/// Nanoseconds of a call of each contender: the least of the samples of 200 microseconds that fit into `each`. They take turns, so that what disturbs
+/// the machine disturbs them all.
+pub fn in_turns(each: Duration, contenders: &mut [&mut dyn FnMut()]) -> Vec<f64> {
+    by_samples(Duration::from_micros(200), each, contenders)
+}
+
+/// The same by samples of two milliseconds: calls in a row, for which what another contender left in the caches is a small part.
+pub fn in_a_row(each: Duration, contenders: &mut [&mut dyn FnMut()]) -> Vec<f64> {
+    by_samples(Duration::from_millis(2), each, contenders)
+}
+
+/// The least of the samples of a length, fifteen at least, so that a long call too has one that nothing disturbed.
+fn by_samples(length: Duration, each: Duration, contenders: &mut [&mut dyn FnMut()]) -> Vec<f64> {
     let calls: Vec<u32> = contenders.iter_mut().map(|c| calls_in_a_sample(length, *c)).collect();
     let mut least = vec![f64::INFINITY; contenders.len()];
     let until = now() + each.as_nanos() as f64 * contenders.len() as f64;
