@@ -2,10 +2,8 @@
 // source: its cells can be appended too.
 use crate::PostAt;
 use crate::TextAt;
-use crate::block::blocks8;
-use crate::block::blocks32;
-use crate::block::within8;
-use crate::block::within32;
+use crate::block::blocks;
+use crate::block::within;
 use crate::shorter;
 ghost use mathlib.Core.Path.{_≡_};
 ghost use mathlib.Core.Bool.{true};
@@ -58,8 +56,7 @@ pub fn copy_in(
         return TextAt(FULL);
     }
     if fits_blocks(src.len() - last, from.len() - last, n, room) {
-        blocks8(src, first, last, buf, at.0);
-        blocks32(from, first, last, nums, at.0);
+        blocks(src, from, first, last, buf, nums, at.0);
         return TextAt(at.0 + n);
     }
     let mut i = first;
@@ -94,8 +91,7 @@ pub fn copy_within(
     }
     let behind = at.0 - last;
     if fits_blocks(behind, behind, n, room) {
-        within8(buf, first, last, at.0);
-        within32(nums, first, last, at.0);
+        within(buf, nums, first, last, at.0);
         return TextAt(at.0 + n);
     }
     let mut i = first;

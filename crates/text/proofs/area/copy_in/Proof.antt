@@ -14,8 +14,7 @@ use Rattle.text.proofs.area.copy_in.Reads as reads
 use Rattle.text.proofs.area.copy_in.Lts as lts
 use Rattle.text.proofs.area.fits_blocks.Reads as fits-blocks-reads
 use Rattle.text.proofs.area.room_from.Reads as room-from-reads
-use Rattle.text.proofs.block.blocks32.Reads as blocks32-reads
-use Rattle.text.proofs.block.blocks8.Reads as blocks8-reads
+use Rattle.text.proofs.block.blocks.Reads as blocks-reads
 
 abbrev Inv-loop : tie.InvT-loop
 Inv-loop src from buf₀ nums₀ end first last n room i₀ to₀ buf nums i to =
@@ -25,112 +24,84 @@ Inv-loop src from buf₀ nums₀ end first last n room i₀ to₀ buf nums i to 
 abbrev μ-loop : tie.MeasureT-loop
 μ-loop src from buf₀ nums₀ end first last n room i₀ to₀ buf nums i to = last - i
 
--- src/area.rt:55:13
 sub-n : tie.Need-sub-n Inv-loop μ-loop
 sub-n c = search needs
 
--- src/area.rt:56:9
 room-from-requires : tie.Need-room-from-requires Inv-loop μ-loop
 room-from-requires c κs = search needs
 
--- src/area.rt:58:9
 returns : tie.Need-returns Inv-loop μ-loop
 returns c = part-over _ _ _ _ _ (omega arith) (omega arith) (omega arith) (omega arith) (omega arith) (omega arith) (omega arith) (omega arith)
 
--- src/area.rt:60:20
 sub-fits-blocks : tie.Need-sub-fits-blocks Inv-loop μ-loop
 sub-fits-blocks c = search needs
 
--- src/area.rt:60:38
 sub-fits-blocks-2 : tie.Need-sub-fits-blocks-2 Inv-loop μ-loop
 sub-fits-blocks-2 c = search needs
 
--- src/area.rt:60:8
 fits-blocks-requires : tie.Need-fits-blocks-requires Inv-loop μ-loop
 fits-blocks-requires c κs = search needs
 
--- src/area.rt:61:9
-blocks8-requires : tie.Need-blocks8-requires Inv-loop μ-loop
-blocks8-requires c κs = let f = c .before .before .fits-blocks .ensures (c .before .if2 .taken) in ((omega arith, omega (arith, f .0)), omega (arith, f .1 .1))
+blocks-requires : tie.Need-blocks-requires Inv-loop μ-loop
+blocks-requires c κs = let f = c .before .before .before .fits-blocks .ensures (c .before .before .if2 .taken) in ((omega arith, (omega (arith, f .0), omega (arith, f .1 .0))), (omega (arith, f .1 .1), omega (arith, f .1 .1)))
 
--- src/area.rt:62:9
-blocks32-requires : tie.Need-blocks32-requires Inv-loop μ-loop
-blocks32-requires c κs = let f = c .before .before .before .before .before .before .fits-blocks .ensures (c .before .before .before .before .before .if2 .taken) in ((omega arith, omega (arith, f .1 .0)), omega (arith, f .1 .1))
-
--- src/area.rt:63:23
 add-t26 : tie.Need-add-t26 Inv-loop μ-loop
-add-t26 c = let f = c .before .before .before .before .before .before .before .before .before .before .fits-blocks .ensures (c .before .before .before .before .before .before .before .before .before .if2 .taken) in omega (arith, f .1 .1)
+add-t26 c = let f = c .before .before .before .before .before .before .before .before .before .fits-blocks .ensures (c .before .before .before .before .before .before .before .before .if2 .taken) in omega (arith, f .1 .1)
 
--- src/area.rt:63:9
 same-length : tie.Need-same-length Inv-loop μ-loop
 same-length c = search needs
 
--- src/area.rt:63:9
 same-length-2 : tie.Need-same-length-2 Inv-loop μ-loop
 same-length-2 c = search needs
 
--- src/area.rt:63:9
 returns-2 : tie.Need-returns-2 Inv-loop μ-loop
 returns-2 c =
-    let f = c .before .before .before .before .before .before .before .before .before .before .fits-blocks .ensures (c .before .before .before .before .before .before .before .before .before .if2 .taken) in
-    let a = c .before .before .before .before .before .before .before .before .before .before .before .before .before .before .before .before .before .args in
-    appendsIn-pasted (a .src .now) (a .from .now) (a .a .0) (a .e .0) (omega arith) (omega arith) (omega arith) (omega (arith, f .1 .1)) (omega arith) (omega arith) (search needs) (search needs) (c .before .before .before .before .before .before .before .blocks8 .ensures) (c .before .before .before .blocks32 .ensures)
+    let f = c .before .before .before .before .before .before .before .before .before .fits-blocks .ensures (c .before .before .before .before .before .before .before .before .if2 .taken) in
+    let a = c .before .before .before .before .before .before .before .before .before .before .before .before .before .before .before .before .args in
+    let w = c .before .before .before .before .before .blocks2 .ensures in
+    appendsIn-pasted (a .src .now) (a .from .now) (a .a .0) (a .e .0) (omega arith) (omega arith) (omega arith) (omega (arith, f .1 .1)) (omega arith) (omega arith) (search needs) (search needs) (w .0) (w .1)
 
--- src/area.rt:67:5
 loop-holds : tie.Need-loop-holds Inv-loop μ-loop
 loop-holds c = (search needs, search needs, omega arith, omega arith, refl, refl, rw part-none (appendsIn-none _ _ _ _))
 
--- src/area.rt:68:19
 shared-slice-read-buf : tie.Need-shared-slice-read-buf Inv-loop μ-loop
 shared-slice-read-buf c = search needs
 
--- src/area.rt:68:9
 slice-write-buf : tie.Need-slice-write-buf Inv-loop μ-loop
 slice-write-buf c = search needs
 
--- src/area.rt:69:20
 mul-nums : tie.Need-mul-nums Inv-loop μ-loop
 mul-nums c = search needs
 
--- src/area.rt:69:20
 shared-slice-read-nums : tie.Need-shared-slice-read-nums Inv-loop μ-loop
 shared-slice-read-nums c = search needs
 
--- src/area.rt:69:9
 mul-nums-2 : tie.Need-mul-nums-2 Inv-loop μ-loop
 mul-nums-2 c = search needs
 
--- src/area.rt:69:9
 slice-write-nums : tie.Need-slice-write-nums Inv-loop μ-loop
 slice-write-nums c = search needs
 
--- src/area.rt:70:9
 add-to : tie.Need-add-to Inv-loop μ-loop
 add-to c = search needs
 
--- src/area.rt:71:9
 add-i : tie.Need-add-i Inv-loop μ-loop
 add-i c = search needs
 
--- src/area.rt:67:5
 loop-less : tie.Need-loop-less Inv-loop μ-loop
 loop-less c = search needs
 
--- src/area.rt:67:5
 loop-again : tie.Need-loop-again Inv-loop μ-loop
 loop-again c =
     let l = c .before .before .before .loop in
     (search needs, search needs, omega arith, search needs, search needs, search needs, copy-in-turn _ _ _ (l .i) (l .inv .6) (appendsIn-set _ _ _ (omega arith) (omega arith) (l .to) _ _ (omega arith)) (omega arith) (omega arith) (omega arith))
 
--- src/area.rt:40:1
 same-length-3 : tie.Need-same-length-3 Inv-loop μ-loop
 same-length-3 c = search needs
 
--- src/area.rt:40:1
 same-length-4 : tie.Need-same-length-4 Inv-loop μ-loop
 same-length-4 c = search needs
 
--- src/area.rt:40:1
 returns-3 : tie.Need-returns-3 Inv-loop μ-loop
 returns-3 c =
     let l = c .before .loop in
@@ -148,8 +119,7 @@ copy-in-spec =
     sub-fits-blocks
     sub-fits-blocks-2
     fits-blocks-requires
-    blocks8-requires
-    blocks32-requires
+    blocks-requires
     add-t26
     same-length
     same-length-2

@@ -14,8 +14,7 @@ use Rattle.text.proofs.area.copy_within.Reads as reads
 use Rattle.text.proofs.area.copy_within.Lts as lts
 use Rattle.text.proofs.area.fits_blocks.Reads as fits-blocks-reads
 use Rattle.text.proofs.area.room_from.Reads as room-from-reads
-use Rattle.text.proofs.block.within32.Reads as within32-reads
-use Rattle.text.proofs.block.within8.Reads as within8-reads
+use Rattle.text.proofs.block.within.Reads as within-reads
 
 abbrev Inv-loop : tie.InvT-loop
 Inv-loop buf₀ nums₀ end first last n room behind i₀ to₀ buf nums i to =
@@ -25,108 +24,81 @@ Inv-loop buf₀ nums₀ end first last n room behind i₀ to₀ buf nums i to =
 abbrev μ-loop : tie.MeasureT-loop
 μ-loop buf₀ nums₀ end first last n room behind i₀ to₀ buf nums i to = last - i
 
--- src/area.rt:90:13
 sub-n : tie.Need-sub-n Inv-loop μ-loop
 sub-n c = search needs
 
--- src/area.rt:91:9
 room-from-requires : tie.Need-room-from-requires Inv-loop μ-loop
 room-from-requires c κs = search needs
 
--- src/area.rt:93:9
 returns : tie.Need-returns Inv-loop μ-loop
 returns c = part-over _ _ _ _ _ (omega arith) (omega arith) (omega arith) (omega arith) (omega arith) (omega arith) (omega arith) (omega arith)
 
--- src/area.rt:95:18
 sub-behind : tie.Need-sub-behind Inv-loop μ-loop
 sub-behind c = search needs
 
--- src/area.rt:96:8
 fits-blocks-requires : tie.Need-fits-blocks-requires Inv-loop μ-loop
 fits-blocks-requires c κs = search needs
 
--- src/area.rt:97:9
-within8-requires : tie.Need-within8-requires Inv-loop μ-loop
-within8-requires c κs = let f = c .before .before .fits-blocks .ensures (c .before .if2 .taken) in ((omega arith, omega (arith, f .0)), omega (arith, f .1 .1))
+within-requires : tie.Need-within-requires Inv-loop μ-loop
+within-requires c κs = let f = c .before .before .before .fits-blocks .ensures (c .before .before .if2 .taken) in ((omega arith, omega (arith, f .0)), (omega (arith, f .1 .1), omega (arith, f .1 .1)))
 
--- src/area.rt:98:9
-within32-requires : tie.Need-within32-requires Inv-loop μ-loop
-within32-requires c κs = let f = c .before .before .before .before .before .before .fits-blocks .ensures (c .before .before .before .before .before .if2 .taken) in ((omega arith, omega (arith, f .0)), omega (arith, f .1 .1))
-
--- src/area.rt:99:23
 add-t21 : tie.Need-add-t21 Inv-loop μ-loop
-add-t21 c = let f = c .before .before .before .before .before .before .before .before .before .before .fits-blocks .ensures (c .before .before .before .before .before .before .before .before .before .if2 .taken) in omega (arith, f .1 .1)
+add-t21 c = let f = c .before .before .before .before .before .before .before .before .before .fits-blocks .ensures (c .before .before .before .before .before .before .before .before .if2 .taken) in omega (arith, f .1 .1)
 
--- src/area.rt:99:9
 same-length : tie.Need-same-length Inv-loop μ-loop
 same-length c = search needs
 
--- src/area.rt:99:9
 same-length-2 : tie.Need-same-length-2 Inv-loop μ-loop
 same-length-2 c = search needs
 
--- src/area.rt:99:9
 returns-2 : tie.Need-returns-2 Inv-loop μ-loop
 returns-2 c =
-    let f = c .before .before .before .before .before .before .before .before .before .before .fits-blocks .ensures (c .before .before .before .before .before .before .before .before .before .if2 .taken) in
-    let a = c .before .before .before .before .before .before .before .before .before .before .before .before .before .before .before .before .args in
-    appendsIn-pasted (a .buf .now) (a .nums .now) (a .a .0) (a .e .0) (omega arith) (omega arith) (omega arith) (omega (arith, f .1 .1)) (omega arith) (omega arith) (search needs) (search needs) (c .before .before .before .before .before .before .before .within8 .ensures) (c .before .before .before .within32 .ensures)
+    let f = c .before .before .before .before .before .before .before .before .before .fits-blocks .ensures (c .before .before .before .before .before .before .before .before .if2 .taken) in
+    let a = c .before .before .before .before .before .before .before .before .before .before .before .before .before .before .before .args in
+    let w = c .before .before .before .before .before .within .ensures in
+    appendsIn-pasted (a .buf .now) (a .nums .now) (a .a .0) (a .e .0) (omega arith) (omega arith) (omega arith) (omega (arith, f .1 .1)) (omega arith) (omega arith) (search needs) (search needs) (w .0) (w .1)
 
--- src/area.rt:103:5
 loop-holds : tie.Need-loop-holds Inv-loop μ-loop
 loop-holds c = (search needs, search needs, omega arith, omega arith, refl, refl, rw part-none (appendsIn-none _ _ _ _))
 
--- src/area.rt:104:19
 slice-read-buf : tie.Need-slice-read-buf Inv-loop μ-loop
 slice-read-buf c = search needs
 
--- src/area.rt:104:9
 slice-write-buf : tie.Need-slice-write-buf Inv-loop μ-loop
 slice-write-buf c = search needs
 
--- src/area.rt:105:20
 mul-nums : tie.Need-mul-nums Inv-loop μ-loop
 mul-nums c = search needs
 
--- src/area.rt:105:20
 slice-read-nums : tie.Need-slice-read-nums Inv-loop μ-loop
 slice-read-nums c = search needs
 
--- src/area.rt:105:9
 mul-nums-2 : tie.Need-mul-nums-2 Inv-loop μ-loop
 mul-nums-2 c = search needs
 
--- src/area.rt:105:9
 slice-write-nums : tie.Need-slice-write-nums Inv-loop μ-loop
 slice-write-nums c = search needs
 
--- src/area.rt:106:9
 add-to : tie.Need-add-to Inv-loop μ-loop
 add-to c = search needs
 
--- src/area.rt:107:9
 add-i : tie.Need-add-i Inv-loop μ-loop
 add-i c = search needs
 
--- src/area.rt:103:5
 loop-less : tie.Need-loop-less Inv-loop μ-loop
 loop-less c = search needs
 
--- src/area.rt:103:5
 loop-again : tie.Need-loop-again Inv-loop μ-loop
 loop-again c =
     let l = c .before .before .before .loop in
     (search needs, search needs, omega arith, search needs, search needs, search needs, within-turn _ _ _ _ _ (l .i) _ _ (l .inv .6) (appendsIn-set _ _ _ (omega arith) (omega arith) (l .to) _ _ (omega arith)) (omega arith) (omega arith) (omega arith) (omega arith) (omega arith) (omega arith) (omega arith))
 
--- src/area.rt:77:1
 same-length-3 : tie.Need-same-length-3 Inv-loop μ-loop
 same-length-3 c = search needs
 
--- src/area.rt:77:1
 same-length-4 : tie.Need-same-length-4 Inv-loop μ-loop
 same-length-4 c = search needs
 
--- src/area.rt:77:1
 returns-3 : tie.Need-returns-3 Inv-loop μ-loop
 returns-3 c =
     let l = c .before .loop in
@@ -143,8 +115,7 @@ copy-within-spec =
     returns
     sub-behind
     fits-blocks-requires
-    within8-requires
-    within32-requires
+    within-requires
     add-t21
     same-length
     same-length-2
