@@ -1,15 +1,16 @@
 -- Laws of the blank characters, by place. Assumes nothing.
 use mathlib.Core.Path.{_≡_, refl, sym, ap, _∙_}
 use mathlib.Core.Bool.{Bool, true, false, cond, _&&_, _||_}
-use Prim.Native.Nat.{ℕ, _+_, _<_}
-use lib.Dec.{eqb, leb}
-use borrow.Author.Tests.{ne-eqb, lt-leb}
+use Prim.Native.Nat.{ℕ, _+_, _-_, _≤_, _<_}
+use lib.Dec.{eqb, leb, ltb}
+use borrow.Author.Tests.{ne-eqb, lt-leb, le-ltb}
 use native.Mathlib.Nat.{add-zero}
 use native.Mathlib.Omega.{arith}
 use mathlib.Core.List.{List}
 use lib.ListN.{drop, getD}
 use lib.Seq.{getD-drop}
 use Rattle.text.specs.Blanks.{blank1, blank2, blank3, blankWidth, blankSize}
+use Rattle.text.specs.Cells.{blankAt, moreAfter}
 
 pub blank-at : (s : List ℕ) (i : ℕ) → blankSize (drop i s) ≡ blankWidth (getD s i 0) (getD s (i + 1) 0) (getD s (i + 2) 0)
 unfolding blankSize
@@ -30,8 +31,18 @@ plain-width a b c h = rw (not-lead a 0xC2 h refl, not-lead a 0xE1 h refl, not-le
 pub plain-blank : (s : List ℕ) (i : ℕ) → lead (getD s i 0) ≡ false → blankSize (drop i s) ≡ cond (blank1 (getD s i 0)) 1 0
 plain-blank s i h = blank-at s i ∙ plain-width (getD s i 0) (getD s (i + 1) 0) (getD s (i + 2) 0) h
 
--- an ASCII byte can't
-pub blank-ascii : (a b c d e : ℕ) → a < 0x80 → blankWidth a b c ≡ blankWidth a d e
-blank-ascii a b c d e h =
-    let n : lead a ≡ false = rw (ne-eqb a 0xC2 (λ (p : a ≡ 0xC2). omega arith), lt-leb 0xE1 a (omega arith)) in
-    plain-width a b c n ∙ sym (plain-width a d e n)
+-- an ASCII byte can't: where no blank character is left over, the byte itself says whether it is blank, and nothing is left of it
+pub ascii-place : (more : ℕ) (s : List ℕ) (i : ℕ) → more ≤ 0 → getD s i 0 < 0x80
+    → _≡_ {A = ℕ} (cond (blank1 (getD s i 0)) 1 0) (cond (blankAt more (drop i s)) 1 0) × _≡_ {A = ℕ} 0 (moreAfter more (drop i s))
+unfolding blankAt moreAfter
+ascii-place more s i m h =
+    let z = plain-blank s i (rw (ne-eqb (getD s i 0) 0xC2 (λ (p : getD s i 0 ≡ 0xC2). omega arith), lt-leb 0xE1 (getD s i 0) (omega arith))) in
+    (sym (rw (le-ltb 0 more m, z) (one (blank1 (getD s i 0)))), sym (rw (le-ltb 0 more m, z) (none (blank1 (getD s i 0)))))
+  where
+    one : (q : Bool) → _≡_ {A = ℕ} (cond (ltb 0 (cond q 1 0)) 1 0) (cond q 1 0)
+    one true = refl
+    one false = refl
+
+    none : (q : Bool) → cond q 1 0 - 1 ≡ 0
+    none true = refl
+    none false = refl

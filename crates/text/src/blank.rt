@@ -92,39 +92,7 @@ fn blank_size(s: &[u8], i: usize) -> usize
     requires { ⌜ i < length (now s) ⌝ }
     ensures { λ r. ⌜ r ≡ blankSize (drop i (now (s .entry))) ⌝ }
 {
-    let a = s[i];
-    if a < 0x80 {
-        return blank_width(a, 0, 0);
-    }
-    blank_width(a, byte_at(s, i + 1), byte_at(s, i + 2))
-}
-
-// The number of a byte's cell, as far as its character decides it: 1 where it is blank, else 0; and how many bytes are left of a blank
-// character behind the byte.
-pub struct Place {
-    pub blank: u32,
-    pub more: usize,
-}
-
-// The place of the byte at a place, where `more` bytes are left of a blank character that began before it.
-pub fn place_at(s: &[u8], at: PostAt, more: usize) -> Place
-    requires { ⌜ at .0 < length (now s) ⌝ }
-    ensures { λ r. ⌜ (r .blank ≡ cond (blankAt more (drop (at .0) (now (s .entry)))) 1 0) × (r .more ≡ moreAfter more (drop (at .0) (now (s .entry)))) ⌝ }
-{
-    if 0 < more {
-        return Place {
-            blank: 1,
-            more: more - 1,
-        };
-    }
-    let n = blank_size(s, at.0);
-    if n == 0 {
-        return Place { blank: 0, more: 0 };
-    }
-    Place {
-        blank: 1,
-        more: n - 1,
-    }
+    blank_width(s[i], byte_at(s, i + 1), byte_at(s, i + 2))
 }
 
 // 1 for an ASCII byte that is blank, else 0.
@@ -135,6 +103,49 @@ fn ascii_blank(b: u8) -> u8
         return 1;
     }
     0
+}
+
+fn wide(b: u8) -> u32
+    ensures { λ r. ⌜ r ≡ b ⌝ }
+{
+    b as u32
+}
+
+// The number of a byte's cell, as far as its character decides it: 1 where it is blank, else 0; and how many bytes are left of a blank
+// character behind the byte.
+pub struct Place {
+    pub blank: u32,
+    pub more: usize,
+}
+
+// The place of the byte at a place, where `more` bytes are left of a blank character that began before it. An ASCII byte is told without a branch: one
+// would be mispredicted.
+pub fn place_at(s: &[u8], at: PostAt, more: usize) -> Place
+    requires { ⌜ at .0 < length (now s) ⌝ }
+    ensures { λ r. ⌜ (r .blank ≡ cond (blankAt more (drop (at .0) (now (s .entry)))) 1 0) × (r .more ≡ moreAfter more (drop (at .0) (now (s .entry)))) ⌝ }
+{
+    if 0 < more {
+        return Place {
+            blank: 1,
+            more: more - 1,
+        };
+    }
+    let i = at.0;
+    let b = s[i];
+    if b < 0x80 {
+        return Place {
+            blank: wide(ascii_blank(b)),
+            more: 0,
+        };
+    }
+    let n = blank_size(s, i);
+    if n == 0 {
+        return Place { blank: 0, more: 0 };
+    }
+    Place {
+        blank: 1,
+        more: n - 1,
+    }
 }
 
 // Whether one of the 16 bytes from i on can begin a blank character of more than one byte.
@@ -177,12 +188,6 @@ fn set_flags(s: &[u8], i: usize, n: usize, flags: &mut [u8])
         flags[k] = ascii_blank(s[i + k]);
         k += 1;
     }
-}
-
-fn wide(b: u8) -> u32
-    ensures { λ r. ⌜ r ≡ b ⌝ }
-{
-    b as u32
 }
 
 // Numbers n bytes from i on, none of which can begin a blank character of more than one byte. The flags stand in an array of bytes first, so that

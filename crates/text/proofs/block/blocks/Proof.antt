@@ -67,9 +67,10 @@ loop-again : tie.Need-loop-again Inv-loop μ-loop
 loop-again c =
     let p = c .before .before .before .before .before .before .before .before .before .before .before .before .before .before .before .before .pre in
     let l = c .before .before .before .before .before .before .before .before .before .before .before .loop in
-    let t = c .before .before .before .before .before .before .before .before .before .before .loop-test .taken in
-    ( rw (c .before .before .before .before .before .before .write8 .ensures) (copying-on (l .inv .0) (p .1 .0) t (p .0 .1 .0) (c .before .before .before .before .before .before .before .before .before .read8 .ensures))
-    , rw (c .before .before .write32 .ensures) (copying-on (l .inv .1) (p .1 .1) t (p .0 .1 .1) (c .before .before .before .before .before .before .before .before .read32 .ensures)))
+    let t = c .before .before .before .before .before .before .before .before .before .before .loop-test .taken in (
+      rw (c .before .before .before .before .before .before .write8 .ensures) (copying-on (l .inv .0) (p .1 .0) t (p .0 .1 .0) (c .before .before .before .before .before .before .before .before .before .read8 .ensures)),
+      rw (c .before .before .write32 .ensures) (copying-on (l .inv .1) (p .1 .1) t (p .0 .1 .1) (c .before .before .before .before .before .before .before .before .read32 .ensures)),
+    )
 
 same-length : tie.Need-same-length Inv-loop μ-loop
 same-length c = c .before .loop .inv .0 .same

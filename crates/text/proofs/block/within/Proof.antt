@@ -73,9 +73,10 @@ loop-again : tie.Need-loop-again Inv-loop μ-loop
 loop-again c =
     let p = c .before .before .before .before .before .before .before .before .before .before .before .before .before .before .before .before .pre in
     let l = c .before .before .before .before .before .before .before .before .before .before .before .before .before .loop in
-    let t = c .before .before .before .before .before .before .before .before .before .before .before .before .loop-test .taken in
-    ( rw (c .before .before .before .before .before .before .write8 .ensures) (copying-on (l .inv .0) (p .1 .0) t (omega (arith, p .0 .1, p .1 .0)) (c .before .before .before .before .before .before .before .before .before .before .read8 .ensures ∙ copying-within (l .inv .0) (omega (arith, p .1 .0)) (omega (arith, p .0 .1, t))))
-    , rw (c .before .before .write32 .ensures) (copying-on (l .inv .1) (p .1 .1) t (omega (arith, p .0 .1, p .1 .1)) (c .before .before .before .before .before .before .before .before .read32 .ensures ∙ copying-within (l .inv .1) (omega (arith, p .1 .1)) (omega (arith, p .0 .1, t)))))
+    let t = c .before .before .before .before .before .before .before .before .before .before .before .before .loop-test .taken in (
+      rw (c .before .before .before .before .before .before .write8 .ensures) (copying-on (l .inv .0) (p .1 .0) t (omega (arith, p .0 .1, p .1 .0)) (c .before .before .before .before .before .before .before .before .before .before .read8 .ensures ∙ copying-within (l .inv .0) (omega (arith, p .1 .0)) (omega (arith, p .0 .1, t)))),
+      rw (c .before .before .write32 .ensures) (copying-on (l .inv .1) (p .1 .1) t (omega (arith, p .0 .1, p .1 .1)) (c .before .before .before .before .before .before .before .before .read32 .ensures ∙ copying-within (l .inv .1) (omega (arith, p .1 .1)) (omega (arith, p .0 .1, t)))),
+    )
 
 same-length : tie.Need-same-length Inv-loop μ-loop
 same-length c = c .before .loop .inv .0 .same
