@@ -193,10 +193,10 @@ fn set_flags(s: &[u8], i: usize, n: usize, flags: &mut [u8])
 // Numbers n bytes from i on, none of which can begin a blank character of more than one byte. The flags stand in an array of bytes first, so that
 // 16 of them are found at once where the machine can.
 fn number_run(s: &[u8], i: usize, n: usize, nums: &mut [u32])
-    requires { ⌜ ((length (now s) ≤ 262144) × (length (now s) ≤ length (now nums))) × ((n ≤ 128) × (i + n ≤ length (now s)) × (n ≤ toFirst (λ x. eqb x 0xC2 || (leb 0xE1 x && leb x 0xE3)) (drop i (now s)))) ⌝ }
+    requires { ⌜ ((length (now s) ≤ 262144) × (length (now s) ≤ length (now nums))) × ((n ≤ 512) × (i + n ≤ length (now s)) × (n ≤ toFirst (λ x. eqb x 0xC2 || (leb 0xE1 x && leb x 0xE3)) (drop i (now s)))) ⌝ }
     ensures { λ _. ⌜ take i (cells (now (s .entry)) (now (nums .entry))) ++ cellsFrom suc (i + 1) 0 (drop i (now (s .entry))) ≡ take (i + n) (cells (now (s .entry)) (now (nums .exit))) ++ cellsFrom suc (i + n + 1) 0 (drop (i + n) (now (s .entry))) ⌝ }
 {
-    let mut flags: [u8; 128] = [0; 128];
+    let mut flags: [u8; 512] = [0; 512];
     set_flags(s, i, n, &mut flags);
     let mut x = 2 * ((i + 1) as u32);
     let mut k: usize = 0;
@@ -214,7 +214,7 @@ fn number_plain(s: &[u8], i: usize, e: usize, nums: &mut [u32])
 {
     let mut j = i;
     while j < e {
-        let n = shorter(128, e - j);
+        let n = shorter(512, e - j);
         number_run(s, j, n, nums);
         j += n;
     }
