@@ -5,12 +5,12 @@ use native.Mathlib.Nat.{add-zero, le-of-suc-le-suc, not-suc-le-zero}
 use native.Mathlib.Omega.{arith}
 use mathlib.Core.Bool.{Bool, true, false, cond, _&&_, _||_, true≢false}
 use mathlib.Core.List.{List, [], _∷_, _++_}
-use lib.ListN.{length, drop, getD}
-use lib.Seq.{getD-drop}
+use lib.ListN.{length, take, drop, getD, length-drop}
+use lib.Seq.{getD-drop, getD-take, length-take-le}
 use lib.Dec.{eqb}
 use borrow.Author.Tests.{eq-eqb, ne-eqb, eqb-true, eqb-false}
 use Rattle.text.specs.Ascii.{ascii, is, inside, small, begins, toFirst, toBracket}
-use Rattle.text.proofs.Bytes.{inside-true, look, look-past}
+use Rattle.text.proofs.Bytes.{inside-true, look, look-past, first-within, first-plain-at}
 use Rattle.quote_tags.specs.Tags.{NextBracket, beginsAny, openers, closers, openerSize, closerSize, NoTag, NoQ}
 use Rattle.quote_tags.proofs.Places.{Between, between-then, Run}
 use Rattle.quote_tags.proofs.Tagging.{tag-not}
@@ -145,6 +145,19 @@ run-past s {a} {i} {r} {j} {k} f g h t = between-then P a i k f (between-then P 
 
     past : Between P i r
     past n l m = let b = h (omega arith) in no-q s n (g (n + 1) (omega arith) (omega (arith, b))) (g (n + 2) (omega arith) (omega (arith, b)))
+
+-- and up to the next `[` before e
+pub run-to-bracket : (s : List ℕ) {a i e k : ℕ} → Between (λ n. NoTag (drop n s)) a i → i ≤ e → e ≤ length s → k ≡ i + toFirst (λ x. eqb x 91) (drop i (take e s))
+    → ((i ≤ k) × (k ≤ e)) × Between (λ n. NoTag (drop n s)) a k
+run-to-bracket s {a} {i} {e} {k} f h le q =
+    let l : length (take e s) ≡ e = length-take-le e s le in
+    let d = length-drop i (take e s) in
+    let m = first-within (λ x. eqb x 91) (drop i (take e s)) in
+    let kl : k ≤ e = omega (arith, q, m, d, l) in
+    ((omega (arith, q), kl), between-then P a i k f (λ n g t. not-bracket s n (λ z. eqb-false _ 91 (first-plain-at (λ x. eqb x 91) (take e s) i n g (omega (arith, l, t, kl)) (omega (arith, t, q))) (getD-take e s n 0 (omega (arith, t, kl)) ∙ z))))
+  where
+    P : ℕ → Type 0
+    P n = NoTag (drop n s)
 
 -- ---- a run from one place up to another
 

@@ -3,6 +3,7 @@ use text::PostAt;
 use text::scan::begins_at;
 use text::scan::byte_at;
 use text::scan::next_bracket;
+use text::scan::next_byte;
 use text::scan::small_of;
 ghost use mathlib.Core.Path.{_≡_};
 ghost use mathlib.Core.Bool.{false};
@@ -67,17 +68,22 @@ fn may_begin(s: &[u8], i: usize) -> bool
     (b == b'q') | (b == b'Q') | ((b == b'/') & ((c == b'q') | (c == b'Q')))
 }
 
-// The first place from `at` up to e where a quote tag may begin, or e.
+// The first place from `at` up to e where a quote tag may begin, or e; from one `[` to the next.
 fn tag_before(s: &[u8], at: usize, e: usize) -> usize
     requires { ⌜ (at ≤ e) × (e ≤ length (now s)) ⌝ }
     ensures { λ r. ⌜ ((at ≤ r) × (r ≤ e)) × ((j : ℕ) → at ≤ j → j < r → NoTag (drop j (now (s .entry)))) ⌝ }
 {
     let mut i = at;
     while i < e {
-        if may_begin(s, i) {
-            return i;
+        let next = next_byte(&s[..e], PostAt(i), b'[');
+        let k = next.0;
+        if e <= k {
+            return k;
         }
-        i += 1;
+        if may_begin(s, k) {
+            return k;
+        }
+        i = k + 1;
     }
     i
 }
@@ -135,7 +141,7 @@ fn two_back(i: usize, j: usize) -> usize
 }
 
 // The first place from a place on where a quote tag may begin, or the end. A tag's q is its second byte or its third, and a q is rare: so
-// places are looked at one by one only from two before a block with a q on.
+// a `[` is looked for only from two places before a block with a q on.
 pub fn next_tag(s: &[u8], at: PostAt) -> PostAt
     requires { ⌜ at .0 ≤ length (now s) ⌝ }
     ensures { λ r. ⌜ ((at .0 ≤ r .0) × (r .0 ≤ length (now (s .entry)))) × ((j : ℕ) → at .0 ≤ j → j < r .0 → NoTag (drop j (now (s .entry)))) ⌝ }
