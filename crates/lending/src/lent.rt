@@ -100,14 +100,14 @@ fn is_zero_or_return(b: u8) -> bool
     (b == 0) | (b == 13)
 }
 
-// Whether one of the 16 bytes from i on is odd: 0, 13 or not ASCII. One comparison of all 16 where the machine has it.
-fn has_odd_16(s: &[u8], i: usize) -> bool
-    requires { ⌜ i + 16 ≤ length (now s) ⌝ }
-    ensures { λ r. ⌜ r ≡ ltb (toFirst (λ x. leb 128 x || zeroOrReturn x) (drop i (now (s .entry)))) 16 ⌝ }
+// Whether one of n bytes from i on is odd: 0, 13 or not ASCII. One comparison of all of them where the machine has it and n is known.
+fn has_odd(s: &[u8], i: usize, n: usize) -> bool
+    requires { ⌜ i + n ≤ length (now s) ⌝ }
+    ensures { λ r. ⌜ r ≡ ltb (toFirst (λ x. leb 128 x || zeroOrReturn x) (drop i (now (s .entry)))) n ⌝ }
 {
     let mut has = false;
     let mut k: usize = 0;
-    while k < 16 {
+    while k < n {
         let b = s[i + k];
         has = has | ((128 <= b) | is_zero_or_return(b));
         k += 1;
@@ -115,15 +115,37 @@ fn has_odd_16(s: &[u8], i: usize) -> bool
     has
 }
 
-// Past blocks of 16 bytes from a place on none of which is odd.
+// n where none of n bytes from i on is odd, else 0.
+fn plain(s: &[u8], i: usize, n: usize) -> usize
+    requires { ⌜ i + n ≤ length (now s) ⌝ }
+    ensures { λ r. ⌜ (r ≤ n) × (r ≤ toFirst (λ x. leb 128 x || zeroOrReturn x) (drop i (now (s .entry)))) ⌝ }
+{
+    if has_odd(s, i, n) {
+        return 0;
+    }
+    n
+}
+
+// The first odd one of 16 bytes from i on, by halves: where a loop over them ends would be mispredicted.
+fn first_odd(s: &[u8], i: usize) -> usize
+    requires { ⌜ i + 16 ≤ length (now s) ⌝ }
+    ensures { λ r. ⌜ (i ≤ r) × (r ≤ length (now (s .entry))) × ((utf8 (drop i (now (s .entry))) && not (anyZeroOrReturn (drop i (now (s .entry))))) ≡ (utf8 (drop r (now (s .entry))) && not (anyZeroOrReturn (drop r (now (s .entry)))))) ⌝ }
+{
+    let a = i + plain(s, i, 8);
+    let b = a + plain(s, a, 4);
+    let c = b + plain(s, b, 2);
+    c + plain(s, c, 1)
+}
+
+// Past bytes from a place on none of which is odd, in blocks of 16.
 fn past_clean(s: &[u8], at: usize) -> usize
     requires { ⌜ at ≤ length (now s) ⌝ }
     ensures { λ r. ⌜ (at ≤ r) × (r ≤ length (now (s .entry))) × ((utf8 (drop at (now (s .entry))) && not (anyZeroOrReturn (drop at (now (s .entry))))) ≡ (utf8 (drop r (now (s .entry))) && not (anyZeroOrReturn (drop r (now (s .entry)))))) ⌝ }
 {
     let mut i = at;
     while 16 <= s.len() - i {
-        if has_odd_16(s, i) {
-            return i;
+        if has_odd(s, i, 16) {
+            return first_odd(s, i);
         }
         i += 16;
     }

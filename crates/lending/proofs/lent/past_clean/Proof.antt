@@ -10,7 +10,8 @@ use Rattle.lending.proofs.lent.past_clean.Statement.{statement}
 use Rattle.lending.proofs.lent.past_clean.Tie as tie
 use Rattle.lending.proofs.lent.past_clean.Reads as reads
 use Rattle.lending.proofs.lent.past_clean.Lts as lts
-use Rattle.lending.proofs.lent.has_odd_16.Reads as has-odd-16-reads
+use Rattle.lending.proofs.lent.first_odd.Reads as first-odd-reads
+use Rattle.lending.proofs.lent.has_odd.Reads as has-odd-reads
 
 abbrev Inv-loop : tie.InvT-loop
 Inv-loop s at i₀ i = (at ≤ i) × (i ≤ length s) × (clean (drop at s) ≡ clean (drop i s))
@@ -24,11 +25,17 @@ loop-holds c = (search needs, search needs, refl)
 sub-loop : tie.Need-sub-loop Inv-loop μ-loop
 sub-loop c = search needs
 
-has-odd-16-requires : tie.Need-has-odd-16-requires Inv-loop μ-loop
-has-odd-16-requires c κs = search needs
+has-odd-requires : tie.Need-has-odd-requires Inv-loop μ-loop
+has-odd-requires c κs = search needs
+
+first-odd-requires : tie.Need-first-odd-requires Inv-loop μ-loop
+first-odd-requires c κs = search needs
 
 returns : tie.Need-returns Inv-loop μ-loop
-returns c = c .before .before .before .loop .inv
+returns c =
+    let l = c .before .before .before .before .loop .inv in
+    let f = c .first-odd .ensures in
+    (omega (arith, l .0, f .0), f .1, l .2 ∙ f .2)
 
 add-i : tie.Need-add-i Inv-loop μ-loop
 add-i c = search needs
@@ -39,7 +46,7 @@ loop-less c = search needs
 loop-again : tie.Need-loop-again Inv-loop μ-loop
 loop-again c =
     let l = c .before .before .before .loop in
-    (search needs, search needs, l .inv .2 ∙ clean-past _ 16 (l .i) (omega arith) (ltb-false _ 16 (sym (c .before .has-odd-16 .ensures) ∙ c .if1 .left)))
+    (search needs, search needs, l .inv .2 ∙ clean-past _ 16 (l .i) (omega arith) (ltb-false _ 16 (sym (c .before .has-odd .ensures) ∙ c .if1 .left)))
 
 returns-2 : tie.Need-returns-2 Inv-loop μ-loop
 returns-2 c = c .before .loop .inv
@@ -52,7 +59,8 @@ past-clean-spec =
     μ-loop
     loop-holds
     sub-loop
-    has-odd-16-requires
+    has-odd-requires
+    first-odd-requires
     returns
     add-i
     loop-less

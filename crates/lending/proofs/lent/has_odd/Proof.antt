@@ -8,17 +8,17 @@ use lib.Dec.{ltb}
 use Rattle.text.specs.Ascii.{toFirst}
 use Rattle.text.proofs.Bytes.{stands-none, stands-turn}
 use Rattle.lending.proofs.Lending.{odd}
-use Rattle.lending.proofs.lent.has_odd_16.Statement.{statement}
-use Rattle.lending.proofs.lent.has_odd_16.Tie as tie
-use Rattle.lending.proofs.lent.has_odd_16.Reads as reads
-use Rattle.lending.proofs.lent.has_odd_16.Lts as lts
+use Rattle.lending.proofs.lent.has_odd.Statement.{statement}
+use Rattle.lending.proofs.lent.has_odd.Tie as tie
+use Rattle.lending.proofs.lent.has_odd.Reads as reads
+use Rattle.lending.proofs.lent.has_odd.Lts as lts
 use Rattle.lending.proofs.lent.is_zero_or_return.Reads as is-zero-or-return-reads
 
 abbrev Inv-loop : tie.InvT-loop
-Inv-loop s i has₀ k₀ has k = (k ≤ 16) × (has ≡ ltb (toFirst odd (drop i s)) k)
+Inv-loop s i n has₀ k₀ has k = (k ≤ n) × (has ≡ ltb (toFirst odd (drop i s)) k)
 
 abbrev μ-loop : tie.MeasureT-loop
-μ-loop s i has₀ k₀ has k = 16 - k
+μ-loop s i n has₀ k₀ has k = n - k
 
 loop-holds : tie.Need-loop-holds Inv-loop μ-loop
 loop-holds c = (search needs, stands-none odd (c .before .args .s .now) (c .before .args .i))
@@ -48,11 +48,11 @@ loop-again c =
 returns : tie.Need-returns Inv-loop μ-loop
 returns c =
     let l = c .before .loop in
-    let e : l .k ≡ 16 = omega arith in
+    let e : l .k ≡ c .before .before .before .args .n = omega arith in
     l .inv .1 ∙ ap (ltb _) e
 
-pub has-odd-16-spec : {M : Type 1} → statement M
-has-odd-16-spec =
+pub has-odd-spec : {M : Type 1} → statement M
+has-odd-spec =
     tie.close
     (tie.spec
     Inv-loop
