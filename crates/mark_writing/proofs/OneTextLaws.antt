@@ -1,4 +1,4 @@
--- Laws of a slot that is one text. Assumes nothing.
+-- Laws of a slot that begins with a text, and of one that is a text. Assumes nothing.
 use mathlib.Core.Path.{_≡_, refl, sym, ap, _∙_, subst}
 use mathlib.Core.List.{List, []}
 use mathlib.Core.Bool.{Bool, true, false, _&&_, false≢true}
@@ -11,11 +11,12 @@ use Rattle.text.specs.Cells.{Cell, cells, part}
 use Rattle.text.specs.Writes.{Appends}
 use Rattle.text.proofs.Writing.{appends-none}
 use Rattle.mark_tags.specs.Marks.{Slots, end, text, front, closed, next, pieceText, start, Step, plain, _▹_, write}
-use Rattle.mark_tags.specs.Flat.{within, beyond, slotAt, boundAt, Held}
+use Rattle.mark_tags.specs.Flat.{within, beyond, slotAt, boundAt, Held, Ready, Answer}
 use Rattle.mark_pieces.specs.Spans.{Writes, SlotWritten}
 use Rattle.mark_pieces.proofs.Pieces.{unescaped, piece-by}
 use Rattle.mark_writing.specs.OneText.{OneText}
 use Rattle.mark_writing.proofs.Slotting.{at-text, at-leave, bounds, some-text}
+use Rattle.mark_writing.proofs.Looking.{here-start, look-text, answer-some}
 use Rattle.mark_writing.proofs.Drawing.{▹-plain, writes-plain}
 use Rattle.mark_writing.proofs.SlotWriting.{text-step}
 
@@ -30,6 +31,12 @@ module _ (src ns : List ℕ) (k from : ℕ) where
 
   abbrev behind : ℕ
   behind = getD ns (length src + (from + 1)) 0
+
+  pub first-text : (depth : ℕ) → Ready src ns k from depth → (ltb from k && eqb (getD ns (2 * length src + 2 + from) 0) 0 && ltb first behind) ≡ true → Answer src ns k from 0
+  unfolding boundAt
+  first-text depth r e =
+      let t = all-three (ltb from k) (eqb (getD ns (2 * length src + 2 + from) 0) 0) (ltb first behind) e in
+      answer-some src ns k from (look-text src ns k from depth from (here-start src ns k from depth r) (ltb-true _ _ (t .0)) (eqb-true _ _ (t .1)) (ltb-true _ _ (t .2)) .0)
 
   pub one-text : from + 1 < k → (eqb (getD ns (2 * length src + 2 + from) 0) 0 && ltb first behind && eqb (getD ns (2 * length src + 2 + (from + 1)) 0) 2) ≡ true → OneText src ns k from
   unfolding boundAt

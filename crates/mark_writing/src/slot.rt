@@ -48,6 +48,18 @@ pub fn content(text: &[u8], nums: &[u32], k: usize, from: usize, depth: usize) -
     i + 1
 }
 
+// The same, at once where the slot begins with a text that is not empty.
+fn content_of(text: &[u8], nums: &[u32], k: usize, from: usize, depth: usize) -> usize
+    requires { ⌜ Ready (now text) (now nums) k from depth ⌝ }
+    ensures { λ r. ⌜ Answer (now (text .entry)) (now (nums .entry)) k from r ⌝ }
+{
+    let n = text.len();
+    if (from < k) & (nums[2 * n + 2 + from] == 0) & (nums[n + from] < nums[n + (from + 1)]) {
+        return 0;
+    }
+    content(text, nums, k, from, depth)
+}
+
 // What is written next in a slot: a byte, 256 for nothing, 257 for a mark with content.
 pub fn next_of(text: &[u8], nums: &[u32], k: usize, from: usize, depth: usize) -> usize
     requires { ⌜ Ready (now text) (now nums) k from depth ⌝ }
@@ -298,7 +310,7 @@ pub fn write_slot(
         } else if code < 4 {
             i += 1;
         } else {
-            let j = content(text, nums, k, i + 1, depth - 1);
+            let j = content_of(text, nums, k, i + 1, depth - 1);
             if j == 0 {
                 let mark = write_mark(
                     text,

@@ -36,7 +36,7 @@ use Rattle.mark_items.proofs.items.bit_of.Reads as bit-of-reads
 use Rattle.mark_pieces.proofs.mark.delimiter_of.Reads as delimiter-of-reads
 use Rattle.mark_pieces.proofs.mark.finish_mark.Reads as finish-mark-reads
 use Rattle.mark_pieces.proofs.piece.write_piece.Reads as write-piece-reads
-use Rattle.mark_writing.proofs.slot.content.Reads as content-reads
+use Rattle.mark_writing.proofs.slot.content_of.Reads as content-of-reads
 use Rattle.mark_writing.proofs.slot.is_one_text.Reads as is-one-text-reads
 use Rattle.mark_writing.proofs.slot.last_of.Reads as last-of-reads
 use Rattle.mark_writing.proofs.slot.next_byte.Reads as next-byte-reads
@@ -116,8 +116,8 @@ write-slot-calls t = (
   touches-mark-reads.Learnt,
   write-piece-reads.Asked,
   write-piece-reads.Learnt,
-  content-reads.Asked,
-  content-reads.Learnt,
+  content-of-reads.Asked,
+  content-of-reads.Learnt,
   write-mark-below t,
   write-mark.Post,
 )
@@ -449,18 +449,18 @@ write-slot-loop-again-3 t c =
     let s = c .before .before .before .before .before .before .before .before .before .before .before .pre .1 in
     (search needs, search needs, search needs, drawn-gone (a .text .now) (a .nums .now) (a .k) (a .from) (a .mask) _ _ _ _ _ _ _ _ (l .i) (l .before) (l .guarded) (l .inv .3) (omega arith) (c .before .if2 .left) (c .before .before .if1 .left) (c .if4 .taken))
 
-write-slot-add-content : (t : ℕ) → write-slot-lts.Need-add-content (write-slot-calls t) (write-slot-at t) write-slot.Post write-slot-Inv-loop write-slot-μ-loop
-write-slot-add-content t c = let l = c .before .before .before .before .before .loop in let s = c .before .before .before .before .before .before .before .before .before .before .before .pre .1 in let tb = s .table in let sm = tb .small in let rm = tb .room in let fw = tb .few in search needs
+write-slot-add-content-of : (t : ℕ) → write-slot-lts.Need-add-content-of (write-slot-calls t) (write-slot-at t) write-slot.Post write-slot-Inv-loop write-slot-μ-loop
+write-slot-add-content-of t c = let l = c .before .before .before .before .before .loop in let s = c .before .before .before .before .before .before .before .before .before .before .before .pre .1 in let tb = s .table in let sm = tb .small in let rm = tb .room in let fw = tb .few in search needs
 
-write-slot-sub-content : (t : ℕ) → write-slot-lts.Need-sub-content (write-slot-calls t) (write-slot-at t) write-slot.Post write-slot-Inv-loop write-slot-μ-loop
-write-slot-sub-content t c =
+write-slot-sub-content-of : (t : ℕ) → write-slot-lts.Need-sub-content-of (write-slot-calls t) (write-slot-at t) write-slot.Post write-slot-Inv-loop write-slot-μ-loop
+write-slot-sub-content-of t c =
     let l = c .before .before .before .before .before .loop in
     let a = c .before .before .before .before .before .before .before .before .before .before .before .args in
     let s = c .before .before .before .before .before .before .before .before .before .before .before .pre .1 in
     let d = mark-deep (a .text .now) (a .nums .now) (a .k) (l .i) _ (l .i) (here-start (a .text .now) (a .nums .now) (a .k) (l .i) _ (fresh-ready (a .text .now) (a .nums .now) (a .k) (l .i) (a .mask) (s .table) (omega arith) (s .small) (l .inv .3 .fresh))) (omega arith) (c .if4 .left) in omega arith
 
-write-slot-content-requires : (t : ℕ) → write-slot-lts.Need-content-requires (write-slot-calls t) (write-slot-at t) write-slot.Post write-slot-Inv-loop write-slot-μ-loop
-write-slot-content-requires t c κs =
+write-slot-content-of-requires : (t : ℕ) → write-slot-lts.Need-content-of-requires (write-slot-calls t) (write-slot-at t) write-slot.Post write-slot-Inv-loop write-slot-μ-loop
+write-slot-content-of-requires t c κs =
     let l = c .before .before .before .before .before .loop in
     let a = c .before .before .before .before .before .before .before .before .before .before .before .args in
     let s = c .before .before .before .before .before .before .before .before .before .before .before .pre .1 in
@@ -477,7 +477,7 @@ write-slot-write-mark-requires t c κs =
         slot = record { table = s .table; up-to = omega arith; small = s .small; fresh = l .inv .3 .fresh; short = omega arith; wide = omega arith; few = l .inv .3 .few };
         inside = omega arith;
         mark = c .before .before .before .before .before .if4 .left;
-        some = c .before .before .before .before .content .ensures .some (c .before .before .before .if5 .taken);
+        some = c .before .before .before .before .content-of .ensures .some (c .before .before .before .if5 .taken);
         small = l .inv .3 .small;
       },
     )
@@ -495,7 +495,7 @@ write-slot-loop-again-4 t c =
     let a = c .before .before .before .before .before .before .before .before .before .before .before .before .before .before .before .before .before .before .before .before .before .before .before .args in
     let s = c .before .before .before .before .before .before .before .before .before .before .before .before .before .before .before .before .before .before .before .before .before .before .before .pre .1 in
     let kp = c .before .before .before .before .before .before .write-mark .kept in
-    (search needs, search needs, search needs, drawn-mark (a .text .now) (a .nums .now) (a .k) (a .from) (a .mask) _ _ _ _ _ _ _ _ (l .i) (l .before) (l .guarded) (l .inv .3) (omega arith) (c .before .before .before .before .before .before .before .before .before .before .before .before .if4 .left) _ _ _ _ _ _ _ (cells-kept _ _ _ _ (kp .1 .1 .1 .1 .1 .1 .0) (kp .1 .1 .1 .1 .1 .1 .1 .0) (let e₁ = l .inv .0 in let e₂ = l .inv .1 in let wd = s .wide in omega arith)) (cells-kept _ _ _ _ (l .inv .0) (l .inv .1) (s .wide)) (kp .1 .1 .1 .1 .1 .1 .1 .1 .1 .0) (c .before .before .before .before .before .before .before .before .before .before .before .content .ensures .some (c .before .before .before .before .before .before .before .before .before .before .if5 .taken)) (spans-few _ _) (c .before .before .before .before .before .before .write-mark .ensures))
+    (search needs, search needs, search needs, drawn-mark (a .text .now) (a .nums .now) (a .k) (a .from) (a .mask) _ _ _ _ _ _ _ _ (l .i) (l .before) (l .guarded) (l .inv .3) (omega arith) (c .before .before .before .before .before .before .before .before .before .before .before .before .if4 .left) _ _ _ _ _ _ _ (cells-kept _ _ _ _ (kp .1 .1 .1 .1 .1 .1 .0) (kp .1 .1 .1 .1 .1 .1 .1 .0) (let e₁ = l .inv .0 in let e₂ = l .inv .1 in let wd = s .wide in omega arith)) (cells-kept _ _ _ _ (l .inv .0) (l .inv .1) (s .wide)) (kp .1 .1 .1 .1 .1 .1 .1 .1 .1 .0) (c .before .before .before .before .before .before .before .before .before .before .before .content-of .ensures .some (c .before .before .before .before .before .before .before .before .before .before .if5 .taken)) (spans-few _ _) (c .before .before .before .before .before .before .write-mark .ensures))
 
 write-slot-sub-i : (t : ℕ) → write-slot-lts.Need-sub-i (write-slot-calls t) (write-slot-at t) write-slot.Post write-slot-Inv-loop write-slot-μ-loop
 write-slot-sub-i t c = let z = c .if5 .left in omega arith
@@ -506,7 +506,7 @@ write-slot-loop-less-5 t c =
     let a = c .before .before .before .before .before .before .before .before .before .before .before .before .before .args in
     let s = c .before .before .before .before .before .before .before .before .before .before .before .before .before .pre .1 in
     let z = c .if5 .left in
-    let e = c .before .content .ensures .empty (c .before .content .result - 1) (omega arith) in
+    let e = c .before .content-of .ensures .empty (c .before .content-of .result - 1) (omega arith) in
     let f = e .forward in
     omega arith
 
@@ -516,7 +516,7 @@ write-slot-loop-again-5 t c =
     let a = c .before .before .before .before .before .before .before .before .before .before .before .before .before .args in
     let s = c .before .before .before .before .before .before .before .before .before .before .before .before .before .pre .1 in
     let z = c .if5 .left in
-    (search needs, search needs, search needs, drawn-empty (a .text .now) (a .nums .now) (a .k) (a .from) (a .mask) _ _ _ _ _ _ _ _ (l .i) (l .before) (l .guarded) (l .inv .3) (omega arith) (c .before .before .if4 .left) _ (c .before .content .ensures .empty (c .before .content .result - 1) (omega arith)))
+    (search needs, search needs, search needs, drawn-empty (a .text .now) (a .nums .now) (a .k) (a .from) (a .mask) _ _ _ _ _ _ _ _ (l .i) (l .before) (l .guarded) (l .inv .3) (omega arith) (c .before .before .if4 .left) _ (c .before .content-of .ensures .empty (c .before .content-of .result - 1) (omega arith)))
 
 write-slot-same-length-4 : (t : ℕ) → write-slot-lts.Need-same-length-4 (write-slot-calls t) (write-slot-at t) write-slot.Post write-slot-Inv-loop write-slot-μ-loop
 write-slot-same-length-4 t c = search needs
@@ -632,9 +632,9 @@ pub +write-body+write-mark+write-slot-spec : {M : Type 1} → statement M
     (write-slot-add-i-3 t)
     (write-slot-loop-less-3 t)
     (write-slot-loop-again-3 t)
-    (write-slot-add-content t)
-    (write-slot-sub-content t)
-    (write-slot-content-requires t)
+    (write-slot-add-content-of t)
+    (write-slot-sub-content-of t)
+    (write-slot-content-of-requires t)
     (write-slot-write-mark-requires t)
     (write-slot-loop-less-4 t)
     (write-slot-loop-again-4 t)

@@ -4,8 +4,6 @@ use mathlib.Core.Bool.{false≢true}
 use Rattle.mark_writing.proofs.OneTextLaws.{one-text}
 use Rattle.mark_writing.proofs.slot.is_one_text.Statement.{statement}
 use Rattle.mark_writing.proofs.slot.is_one_text.Tie as tie
-use Rattle.mark_writing.proofs.slot.is_one_text.Reads as reads
-use Rattle.mark_writing.proofs.slot.is_one_text.Lts as lts
 
 add-if1 : tie.Need-add-if1
 add-if1 c = search needs
