@@ -4,3 +4,4 @@ pub mod Drawing
 pub mod SlotWriting
 pub mod MarkWriting
 pub mod SlotAsking
+pub mod OneTextLaws

@@ -27,7 +27,7 @@ piece-same : (guarded m n : Bool) (p : List Cell) → touching m (lastOr absent 
 unfolding pieceText
 piece-same guarded m n p e = ap (λ (l : List Cell). backslash (guarded && is "}" (firstOr absent p)) ++ l) (escape-same (touching m) (touching n) true absent p e)
 
-text-step : (p : List Cell) (d : Cell) (r : List Cell) (n : Next) (st : State) → p ≡ d ∷ r
+pub text-step : (p : List Cell) (d : Cell) (r : List Cell) (n : Next) (st : State) → p ≡ d ∷ r
     → textStep p n st ≡ record { wrote = plain (pieceText (st .guarded) (marked n) p); state = record { before = lastOr absent p; guarded = false } }
 unfolding textStep
 text-step p d r n st e = rw e

@@ -8,14 +8,15 @@ use text::PostAt;
 use text::TextAt;
 use text::write::put_sign;
 ghost use mathlib.Core.Path.{_≡_};
-ghost use mathlib.Core.Bool.{cond};
+ghost use mathlib.Core.Bool.{true, cond};
 ghost use lib.Dec.{eqb};
 ghost use Rattle.text.specs.Cells.{cells};
 ghost use Prim.Native.Nat.{_-_, _≤_, _<_};
 ghost use lib.ListN.{length, getD};
 ghost use Rattle.mark_tags.specs.Marks.{next, marked, touching};
-ghost use Rattle.mark_tags.specs.Flat.{within, slotAt, NextIs, Ready, Answer};
+ghost use Rattle.mark_tags.specs.Flat.{within, slotAt, NextIs, Held, Ready, Answer};
 ghost use Rattle.mark_pieces.specs.Spans.{Slot, SlotWritten, MarkReady, MarkWritten};
+ghost use Rattle.mark_writing.specs.OneText.{OneText};
 
 // Whether a slot holds text, at some depth: 0 if so, else 1 + the item behind the slot.
 pub fn content(text: &[u8], nums: &[u32], k: usize, from: usize, depth: usize) -> usize
@@ -45,6 +46,18 @@ pub fn content(text: &[u8], nums: &[u32], k: usize, from: usize, depth: usize) -
         }
     }
     i + 1
+}
+
+// The same, at once where the slot begins with a text that is not empty.
+fn content_of(text: &[u8], nums: &[u32], k: usize, from: usize, depth: usize) -> usize
+    requires { ⌜ Ready (now text) (now nums) k from depth ⌝ }
+    ensures { λ r. ⌜ Answer (now (text .entry)) (now (nums .entry)) k from r ⌝ }
+{
+    let n = text.len();
+    if (from < k) & (nums[2 * n + 2 + from] == 0) & (nums[n + from] < nums[n + (from + 1)]) {
+        return 0;
+    }
+    content(text, nums, k, from, depth)
 }
 
 // What is written next in a slot: a byte, 256 for nothing, 257 for a mark with content.
@@ -126,6 +139,20 @@ fn last_of(braces: bool, d: u8) -> usize
     d as usize
 }
 
+// Whether the slot that starts at item `from` is one text that is not empty, and ends.
+fn is_one_text(text: &[u8], nums: &[u32], k: usize, from: usize) -> bool
+    requires { ⌜ Held (now text) (now nums) k × (from ≤ k) ⌝ }
+    ensures { λ r. ⌜ (r ≡ true → OneText (now (text .entry)) (now (nums .entry)) k from) ⌝ }
+{
+    let n = text.len();
+    if k <= from + 1 {
+        return false;
+    }
+    (nums[2 * n + 2 + from] == 0)
+        & (nums[n + from] < nums[n + (from + 1)])
+        & (nums[2 * n + 2 + (from + 1)] == 2)
+}
+
 // Writes the mark that starts at item i, in a slot where the kinds of a mask are open.
 pub fn write_mark(
     text: &[u8],
@@ -148,7 +175,7 @@ pub fn write_mark(
     let d = delimiter_of(kind);
     let p = at.0;
     let start = put_sign(out, origins, at, d);
-    let body = write_slot(
+    let body = write_body(
         text,
         nums,
         k,
@@ -193,6 +220,36 @@ pub fn write_mark(
         before: last_of(braces, d),
         guarded: !braces & (before == 123),
     }
+}
+
+// Writes a mark's slot: a single text at once, since nothing is guarded before it or written behind it; any other slot item by item.
+fn write_body(
+    text: &[u8],
+    nums: &[u32],
+    k: usize,
+    from: usize,
+    mask: u32,
+    out: &mut [u8],
+    origins: &mut [u32],
+    at: TextAt,
+    spans: &mut [u32],
+    count: usize,
+) -> Went
+    requires { ⌜ Slot (now text) (now nums) k from mask (now out) (now origins) count ⌝ }
+    ensures { λ r. ⌜ SlotWritten (now (text .entry)) (now (nums .entry)) k from (cells (now (out .entry)) (now (origins .entry))) (at .0) (now (spans .entry)) count (cells (now (out .exit)) (now (origins .exit))) (r .to) (now (spans .exit)) (r .count) (r .item) ⌝ }
+{
+    if is_one_text(text, nums, k, from) {
+        let n = text.len();
+        let a = nums[n + from] as usize;
+        let e = nums[n + (from + 1)] as usize;
+        let behind = text::write::copy(text, nums, PostAt(a), PostAt(e), out, origins, at);
+        return Went {
+            item: from + 2,
+            to: behind.0,
+            count,
+        };
+    }
+    write_slot(text, nums, k, from, mask, out, origins, at, spans, count)
 }
 
 // Writes the slot that starts at item `from`, where the kinds of a mask are open.
@@ -253,7 +310,7 @@ pub fn write_slot(
         } else if code < 4 {
             i += 1;
         } else {
-            let j = content(text, nums, k, i + 1, depth - 1);
+            let j = content_of(text, nums, k, i + 1, depth - 1);
             if j == 0 {
                 let mark = write_mark(
                     text,
