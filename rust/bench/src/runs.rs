@@ -8,8 +8,8 @@ use crate::{
 };
 use std::{hint::black_box, time::Duration};
 
-/// How much time the least of a contender's samples is looked for.
-const EACH: Duration = Duration::from_millis(150);
+/// How much time the least of a contender's samples is looked for: longer than a neighbour on the machine disturbs most samples.
+const EACH: Duration = Duration::from_millis(400);
 /// A contender that takes longer than a quarter of this for a post is not given a longer one.
 const PATIENCE: Duration = Duration::from_millis(600);
 
