@@ -9,7 +9,7 @@ use native.Mathlib.Decide.{ℕ-discrete}
 use lib.Dec.{eqb, ltb}
 use lib.ListN.{length, take, drop, getD, drop-of-length-le, length-drop, List·getD-eq-default}
 use lib.Seq.{length-take-le, getD-drop}
-use borrow.Author.Tests.{eq-eqb, ne-eqb, eqb-true, eqb-false, lt-ltb}
+use borrow.Author.Tests.{eq-eqb, ne-eqb, eqb-true, lt-ltb}
 use Rattle.text.specs.Ascii.{ascii, is, small, begins, spells, isEmpty, digits, allDigits}
 use Rattle.attribution_parts.specs.declared.Kind.{Kind}
 use Rattle.attribution_parts.specs.declared.Kind.the-variants.{Name, PostId, Id, Date, Time}
@@ -134,11 +134,8 @@ pub record Found (s : List ℕ) (k : Kind) (i at : ℕ) (f : Field) : Type 0 whe
 abbrev pub nothing : Field
 nothing = record { from = 0; size = 0; index = 0 }
 
-found-first : (s : List ℕ) (k : Kind) (at : ℕ) → Stands s 0 at → Found s k 0 at nothing
-found-first s k at st = record { inside = omega arith; no = λ _. ap (first k) (st .rest) ∙ sym (zero-plus (first k (parts 0 (drop at s)))); yes = λ n. absurd (n refl) }
-  where
-    zero-plus : (n : ℕ) → 0 + n ≡ n
-    zero-plus n = omega arith
+abbrev pub noFields : Fields
+noFields = record { name = nothing; post = nothing; id = nothing; date = nothing; time = nothing }
 
 -- a leading id is no field
 pub found-lead : (s : List ℕ) (k : Kind) (l : Lead) → LeadAt s l → Found s k (l .count) (l .next) nothing
@@ -325,10 +322,10 @@ turned n f p i = record {
 }
 
 module _ (s : List ℕ) (f : Fields) (p : Place) (i n : ℕ) (t : Tells (λ k. counts k (partOf s p)) n) where
-  pub step-turned : FieldsStep s f p i (turned n f p i)
-  step-turned = record { step = λ k. of k ∙ ap (λ (b : Bool). cond b (earlierOf (fieldAs k f) p i) (fieldAs k f)) (sym (t .is k)) }
+  pub step-turned : (m : ℕ) → n ≡ m → FieldsStep s f p i (turned m f p i)
+  step-turned m e = record { step = λ k. rw (t .is k, e) (of k) }
     where
-      of : (k : Kind) → fieldAs k (turned n f p i) ≡ cond (eqb n (number k)) (earlierOf (fieldAs k f) p i) (fieldAs k f)
+      of : (k : Kind) → fieldAs k (turned m f p i) ≡ cond (eqb m (number k)) (earlierOf (fieldAs k f) p i) (fieldAs k f)
       of Name = refl
       of PostId = refl
       of Id = refl
@@ -352,15 +349,16 @@ pub record Reading (s : List ℕ) (i at : ℕ) (f : Fields) : Type 0 where
   pub slow : i ≤ at
   pub found : (k : Kind) → Found s k i at (fieldAs k f)
 
-pub read-first : (s : List ℕ) (at : ℕ) → Stands s 0 at → Reading s 0 at (record { name = nothing; post = nothing; id = nothing; date = nothing; time = nothing })
-read-first s at st = record { stands = st; slow = omega arith; found = found }
+-- behind the leading id
+pub read-lead : (s : List ℕ) (l : Lead) → LeadAt s l → Reading s (l .count) (l .next) noFields
+read-lead s l h = record { stands = h .stands; slow = h .slow; found = λ k. rw (none k) (found-lead s k l h) }
   where
-    found : (k : Kind) → Found s k 0 at (fieldAs k (record { name = nothing; post = nothing; id = nothing; date = nothing; time = nothing }))
-    found Name = found-first s Name at st
-    found PostId = found-first s PostId at st
-    found Id = found-first s Id at st
-    found Date = found-first s Date at st
-    found Time = found-first s Time at st
+    none : (k : Kind) → fieldAs k noFields ≡ nothing
+    none Name = refl
+    none PostId = refl
+    none Id = refl
+    none Date = refl
+    none Time = refl
 
 pub read-on : {s : List ℕ} {i at : ℕ} {p : Place} {f g : Fields} → Reading s i at f → Scanned s at p → FieldsStep s f p i g → Reading s (i + 1) (p .next) g
 read-on {s} {i} {at} {p} {f} {g} r sc st = record { stands = scan-on s i at p (r .stands) sc; slow = omega (arith, sc .grows, r .slow); found = λ k. rw (st .step k) (by k (counts k (partOf s p)) refl) }

@@ -3,7 +3,8 @@
 --   Tells test n      the number n stands for the kind that the test holds of
 --   FieldAt s k f     the first usable field of kind k: where its value stands, and which part is it
 --   FieldsAt s f      this for all five kinds
---   FieldsStep        one part more for all five kinds
+--   fieldAs k f       of five fields the one of kind k
+--   FieldsStep        one part more for all five
 --   LeadAt s l        the leading id, and where the part behind it begins
 --   LastIn s i xs l   of the parts xs, of which the first has the index i: the last text that is not empty
 --   LastAt s i l      this for all parts from i on

@@ -77,6 +77,13 @@ pub struct Ends {
     pub size: usize,
 }
 
+// What is read off an attribution.
+pub struct Facts {
+    pub fields: Fields,
+    pub lead: Lead,
+    pub ends: Ends,
+}
+
 fn is_word(word: &[u8], key: &[u8]) -> bool
     ensures { λ r. ⌜ r ≡ spells (now (word .entry)) (now (key .entry)) ⌝ }
 {
@@ -263,36 +270,6 @@ fn with_field(s: &[u8], fields: Fields, p: Place, i: usize) -> Fields
     r
 }
 
-// One pass over the parts, where a `=` stands at all.
-pub fn read_fields(s: &[u8]) -> Fields
-    ensures { λ r. ⌜ FieldsAt (now (s .entry)) r ⌝ }
-{
-    let none = Field {
-        from: 0,
-        size: 0,
-        index: 0,
-    };
-    let mut fields = Fields {
-        name: none,
-        post: none,
-        id: none,
-        date: none,
-        time: none,
-    };
-    if !has_equals(s) {
-        return fields;
-    }
-    let mut i: usize = 0;
-    let mut at = first_at(s);
-    while at < s.len() {
-        let p = read_part(s, at);
-        fields = with_field(s, fields, p, i);
-        i += 1;
-        at = p.next;
-    }
-    fields
-}
-
 // Whether a part is a leading id, where it is the first one.
 fn is_leading(s: &[u8], p: Place) -> bool
     requires { ⌜ p .from + p .size ≤ length (now s) ⌝ }
@@ -435,11 +412,10 @@ fn split_of(s: &[u8], last: Last) -> Ends
 }
 
 // The split and the caption's id.
-pub fn read_ends(s: &[u8], fields: Fields, lead: Lead) -> Ends
-    requires { ⌜ (length (now s) ≤ 1073741824) × (FieldsAt (now s) fields × LeadAt (now s) lead) ⌝ }
+fn ends_of(s: &[u8], fields: Fields, lead: Lead, last: Last) -> Ends
+    requires { ⌜ (length (now s) ≤ 1073741824) × (FieldsAt (now s) fields × (LeadAt (now s) lead × LastAt (now s) (lead .count) last)) ⌝ }
     ensures { λ r. ⌜ EndsAt (now (s .entry)) r ⌝ }
 {
-    let last = last_text(s, lead.count, lead.next);
     let post = fields.post;
     if 0 < post.size {
         return Ends {
@@ -470,4 +446,55 @@ pub fn read_ends(s: &[u8], fields: Fields, lead: Lead) -> Ends
         };
     }
     split_of(s, last)
+}
+
+// What an attribution says. Behind the leading id, which is no field, one pass over the parts finds the fields and the last text; without a
+// `=` there are no fields.
+pub fn read_facts(s: &[u8]) -> Facts
+    requires { ⌜ length (now s) ≤ 1073741824 ⌝ }
+    ensures { λ r. ⌜ FieldsAt (now (s .entry)) (r .fields) × (LeadAt (now (s .entry)) (r .lead) × EndsAt (now (s .entry)) (r .ends)) ⌝ }
+{
+    let none = Field {
+        from: 0,
+        size: 0,
+        index: 0,
+    };
+    let mut fields = Fields {
+        name: none,
+        post: none,
+        id: none,
+        date: none,
+        time: none,
+    };
+    let lead = leading_id(s);
+    if !has_equals(s) {
+        let last = last_text(s, lead.count, lead.next);
+        let ends = ends_of(s, fields, lead, last);
+        return Facts {
+            fields: fields,
+            lead: lead,
+            ends: ends,
+        };
+    }
+    let mut last = Last {
+        from: 0,
+        size: 0,
+        end: 0,
+        total: 0,
+    };
+    let mut i = lead.count;
+    let mut at = lead.next;
+    while at < s.len() {
+        let p = read_part(s, at);
+        fields = with_field(s, fields, p, i);
+        last = with_part(s, last, p, i);
+        i += 1;
+        at = p.next;
+    }
+    let ends = ends_of(s, fields, lead, last);
+    Facts {
+        fields: fields,
+        lead: lead,
+        ends: ends,
+    }
 }

@@ -1,9 +1,6 @@
 use borrow.Author.Needs.{needs}
 use native.Mathlib.Omega.{arith}
-use mathlib.Core.Path.{_≡_, refl, sym, ap, _∙_}
-use Prim.Native.Nat.{ℕ, suc, _+_, _-_, _≤_, _<_}
-use mathlib.Core.List.{List, [], _∷_, _++_}
-use lib.ListN.{length, getD}
+use mathlib.Core.Path.{refl, sym, _∙_}
 use Rattle.text.proofs.Decide.{or-yes}
 use Rattle.attribution_parts.specs.declared.Kind.the-variants.{Name, PostId, Id, Date, Time}
 use Rattle.attribution_reading.proofs.Fielding.{tells-kind, tells-author, tells-none}
