@@ -3,9 +3,7 @@ use attribution_losses::loss::is_day;
 use attribution_reading::facts::Ends;
 use attribution_reading::facts::Field;
 use attribution_reading::facts::Fields;
-use attribution_reading::facts::leading_id;
-use attribution_reading::facts::read_ends;
-use attribution_reading::facts::read_fields;
+use attribution_reading::facts::read_facts;
 use day::write_day;
 use text::TextAt;
 use text::write::put;
@@ -209,9 +207,9 @@ pub fn put_caption<'a>(
     requires { ⌜ (length (now attribution) ≤ 1073741824) × (now joined ≡ nameTexts (now attribution)) ⌝ }
     ensures { λ r. ⌜ Appends (cells (now (out .entry)) (now (origins .entry))) (at .0) (cells (now (out .exit)) (now (origins .exit))) (r .0) (written (caption (now (attribution .entry)))) ⌝ }
 {
-    let fields = read_fields(attribution);
-    let lead = leading_id(attribution);
-    let ends = read_ends(attribution, fields, lead);
+    let facts = read_facts(attribution);
+    let fields = facts.fields;
+    let ends = facts.ends;
     let day = is_day(attribution, fields.time);
     put_pieces(attribution, joined, fields, day, ends, out, origins, at)
 }

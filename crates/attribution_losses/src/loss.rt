@@ -4,9 +4,7 @@ use attribution_reading::facts::Field;
 use attribution_reading::facts::Fields;
 use attribution_reading::facts::Lead;
 use attribution_reading::facts::has_equals;
-use attribution_reading::facts::leading_id;
-use attribution_reading::facts::read_ends;
-use attribution_reading::facts::read_fields;
+use attribution_reading::facts::read_facts;
 use attribution_reading::reader::read_part;
 use day::is_seconds;
 ghost use mathlib.Core.Path.{_≡_};
@@ -382,9 +380,10 @@ pub fn put_losses(
             bytes: at,
         };
     }
-    let fields = read_fields(attribution);
-    let lead = leading_id(attribution);
-    let ends = read_ends(attribution, fields, lead);
+    let facts = read_facts(attribution);
+    let fields = facts.fields;
+    let lead = facts.lead;
+    let ends = facts.ends;
     let day = is_day(attribution, fields.time);
     let c = put_passed(
         is_passed(lead, fields),

@@ -9,7 +9,7 @@ use native.Mathlib.Decide.{ℕ-discrete}
 use lib.Dec.{eqb, ltb}
 use lib.ListN.{length, take, drop, getD, drop-of-length-le, length-drop, List·getD-eq-default}
 use lib.Seq.{length-take-le, getD-drop}
-use borrow.Author.Tests.{eq-eqb, ne-eqb, eqb-true, eqb-false, lt-ltb}
+use borrow.Author.Tests.{eq-eqb, ne-eqb, eqb-true, lt-ltb}
 use Rattle.text.specs.Ascii.{ascii, is, small, begins, spells, isEmpty, digits, allDigits}
 use Rattle.attribution_parts.specs.declared.Kind.{Kind}
 use Rattle.attribution_parts.specs.declared.Kind.the-variants.{Name, PostId, Id, Date, Time}
@@ -20,7 +20,7 @@ use Rattle.attribution_reading.specs.declared.scan.Place.{Place}
 use Rattle.attribution_parts.specs.Parts.{Part, field, text, parts}
 use Rattle.attribution_parts.specs.Attribution.{isKind, isUsable, counts, first, fieldOf, valueOf, partNo, leading}
 use Rattle.attribution_reading.specs.Places.{bytes, partOf, partWith, Stands, Scanned}
-use Rattle.attribution_reading.specs.Reads.{FieldAt, FieldsAt, LeadAt}
+use Rattle.attribution_reading.specs.Reads.{number, Tells, FieldAt, FieldsAt, fieldAs, earlierOf, FieldsStep, LeadAt}
 use Rattle.attribution_reading.proofs.Laws.{scan-on}
 
 -- ---- words and values
@@ -134,11 +134,8 @@ pub record Found (s : List ℕ) (k : Kind) (i at : ℕ) (f : Field) : Type 0 whe
 abbrev pub nothing : Field
 nothing = record { from = 0; size = 0; index = 0 }
 
-found-first : (s : List ℕ) (k : Kind) (at : ℕ) → Stands s 0 at → Found s k 0 at nothing
-found-first s k at st = record { inside = omega arith; no = λ _. ap (first k) (st .rest) ∙ sym (zero-plus (first k (parts 0 (drop at s)))); yes = λ n. absurd (n refl) }
-  where
-    zero-plus : (n : ℕ) → 0 + n ≡ n
-    zero-plus n = omega arith
+abbrev pub noFields : Fields
+noFields = record { name = nothing; post = nothing; id = nothing; date = nothing; time = nothing }
 
 -- a leading id is no field
 pub found-lead : (s : List ℕ) (k : Kind) (l : Lead) → LeadAt s l → Found s k (l .count) (l .next) nothing
@@ -208,17 +205,10 @@ found-all s k i at f st le d = elim (ℕ-discrete (f .size) 0) [ yes z ↦ none 
         let n : length (parts 0 s) ≤ i = short i (parts 0 s) (st .rest ∙ o) in
         found-none s k f (d .inside) z (omega (arith, e, n))
 
--- ---- a part is a usable field of one kind at most: its key's first letter says which
-
-abbrev number : Kind → ℕ
-number Name = 0
-number PostId = 1
-number Id = 2
-number Date = 3
-number Time = 4
+-- ---- a key is of one kind at most: its first letter says which
 
 abbrev byLetter : ℕ → ℕ
-byLetter b = cond (is "p" b) 1 (cond (is "i" b) 2 (cond (is "d" b) 3 (cond (is "t" b) 4 0)))
+byLetter b = cond (is "p" b) 2 (cond (is "i" b) 3 (cond (is "d" b) 4 (cond (is "t" b) 5 1)))
 
 first-letter : (a : ℕ) (w key : List ℕ) → spells (a ∷ w) key ≡ true → small (getD key 0 0) ≡ a
 unfolding spells
@@ -228,7 +218,7 @@ first-letter a w (b ∷ key) h = eqb-true (small b) a (and-left (eqb (small b) a
 kind-letter : (k : Kind) (key : List ℕ) → isKind k key ≡ true → byLetter (small (getD key 0 0)) ≡ number k
 kind-letter Name key h = by (spells (ascii "name") key) refl h
   where
-    by : (t : Bool) → spells (ascii "name") key ≡ t → (t || spells (ascii "author") key) ≡ true → byLetter (small (getD key 0 0)) ≡ 0
+    by : (t : Bool) → spells (ascii "name") key ≡ t → (t || spells (ascii "author") key) ≡ true → byLetter (small (getD key 0 0)) ≡ 1
     by true p o = rw (first-letter 110 (ascii "ame") key p)
     by false p o = rw (first-letter 97 (ascii "uthor") key o)
 kind-letter PostId key h = rw (first-letter 112 (ascii "ost_id") key h)
@@ -236,72 +226,149 @@ kind-letter Id key h = rw (first-letter 105 (ascii "d") key h)
 kind-letter Date key h = rw (first-letter 100 (ascii "ate") key h)
 kind-letter Time key h = rw (first-letter 116 (ascii "ime") key h)
 
-other-kind : (j k : Kind) (q : Part) → counts j q ≡ true → eqb (number k) (number j) ≡ false → counts k q ≡ false
-other-kind j k (text w quoted) h n = refl
-other-kind j k (field key v) h n = by (isKind k key) refl
+abbrev kindBy : ℕ → Kind
+kindBy n = cond (eqb n 2) PostId (cond (eqb n 3) Id (cond (eqb n 4) Date (cond (eqb n 5) Time Name)))
+
+kind-by : (k : Kind) → kindBy (number k) ≡ k
+kind-by Name = refl
+kind-by PostId = refl
+kind-by Id = refl
+kind-by Date = refl
+kind-by Time = refl
+
+number-some : (k : Kind) → eqb 0 (number k) ≡ false
+number-some Name = refl
+number-some PostId = refl
+number-some Id = refl
+number-some Date = refl
+number-some Time = refl
+
+pub tells-kind : (j : Kind) (key : List ℕ) → isKind j key ≡ true → Tells (λ k. isKind k key) (number j)
+tells-kind j key h = record { is = λ k. by k (isKind k key) refl }
   where
-    by : (t : Bool) → isKind k key ≡ t → (t && isUsable k v) ≡ false
-    by true e = absurd (eqb-false (number k) (number j) n (sym (kind-letter k key e) ∙ kind-letter j key (and-left (isKind j key) (isUsable j v) h)))
-    by false e = refl
+    by : (k : Kind) (t : Bool) → isKind k key ≡ t → t ≡ eqb (number j) (number k)
+    by k true e = sym (eq-eqb (number j) (number k) (sym (kind-letter j key h) ∙ kind-letter k key e))
+    by k false e = sym (ne-eqb (number j) (number k) (λ (q : number j ≡ number k). true≢false (sym h ∙ ap (λ (i : Kind). isKind i key) (sym (kind-by j) ∙ ap kindBy q ∙ kind-by k) ∙ e)))
+
+pub tells-author : (key : List ℕ) → spells (ascii "author") key ≡ true → Tells (λ k. isKind k key) 1
+tells-author key h = tells-kind Name key (by (spells (ascii "name") key) h)
+  where
+    by : (a : Bool) {b : Bool} → b ≡ true → (a || b) ≡ true
+    by true e = refl
+    by false e = e
+
+-- a key that spells none of the words of its length
+pub tells-none : (key : List ℕ) → (length key ≡ 2 → spells (ascii "id") key ≡ false)
+    → (length key ≡ 4 → (spells (ascii "name") key ≡ false) × ((spells (ascii "date") key ≡ false) × (spells (ascii "time") key ≡ false)))
+    → (length key ≡ 6 → spells (ascii "author") key ≡ false) → (length key ≡ 7 → spells (ascii "post_id") key ≡ false) → Tells (λ k. isKind k key) 0
+tells-none key two four six seven = record { is = by }
+  where
+    unlike : (w : List ℕ) → (length key ≡ length w → spells w key ≡ false) → spells w key ≡ false
+    unlike w h = elim (ℕ-discrete (length key) (length w)) [ yes e ↦ h e | no n ↦ word-other w key n ]
+
+    by : (k : Kind) → isKind k key ≡ eqb 0 (number k)
+    by Name = rw (unlike (ascii "name") (λ e. four e .0), unlike (ascii "author") six)
+    by PostId = unlike (ascii "post_id") seven
+    by Id = unlike (ascii "id") two
+    by Date = unlike (ascii "date") (λ e. four e .1 .0)
+    by Time = unlike (ascii "time") (λ e. four e .1 .1)
+
+-- ---- a part is a usable field of the kind of its key, or of none
+
+-- its value as the code cuts it out
+abbrev valueCut : List ℕ → Place → List ℕ
+valueCut s p = take (p .from + p .size - p .from) (drop (p .from) s)
+
+abbrev pub usable : ℕ → List ℕ → Bool
+usable n v = cond (eqb n 2 || eqb n 3) (digits v) (not (isEmpty v))
+
+usable-as : (k : Kind) (v : List ℕ) → isUsable k v ≡ usable (number k) v
+usable-as Name v = refl
+usable-as PostId v = refl
+usable-as Id v = refl
+usable-as Date v = refl
+usable-as Time v = refl
+
+pub some-value : (s : List ℕ) (p : Place) → p .from + p .size ≤ length s → not (isEmpty (valueCut s p)) ≡ ltb 0 (p .size)
+unfolding bytes
+some-value s p h = rw (add-sub-cancel-left (p .from) (p .size)) (sym (some (take (p .size) (drop (p .from) s))) ∙ ap (ltb 0) (length-bytes s (p .from) (p .size) h))
+
+pub tells-text : (s : List ℕ) (p : Place) → p .keylen ≡ 0 → Tells (λ k. counts k (partOf s p)) 0
+tells-text s p e = record { is = λ k. no-field s p k e ∙ sym (number-some k) }
+
+pub tells-part : (s : List ℕ) (p : Place) (n : ℕ) (b : Bool) → (p .keylen ≡ 0 → ⊥) → Tells (λ k. isKind k (take (p .key + p .keylen - p .key) (drop (p .key) s))) n
+    → usable n (valueCut s p) ≡ b → Tells (λ k. counts k (partOf s p)) (cond b n 0)
+tells-part s p n b f t u = record { is = λ k. a-field s p k f ∙ rw (t .is k) (by k (eqb n (number k)) refl b u) }
+  where
+    own : (k : Kind) → eqb n (number k) ≡ true → isUsable k (valueCut s p) ≡ usable n (valueCut s p)
+    own k e = usable-as k (valueCut s p) ∙ ap (λ (m : ℕ). usable m (valueCut s p)) (sym (eqb-true n (number k) e))
+
+    by : (k : Kind) (o : Bool) → eqb n (number k) ≡ o → (b : Bool) → usable n (valueCut s p) ≡ b → (o && isUsable k (valueCut s p)) ≡ eqb (cond b n 0) (number k)
+    by k true e true u = own k e ∙ u ∙ sym e
+    by k true e false u = own k e ∙ u ∙ sym (number-some k)
+    by k false e true u = sym e
+    by k false e false u = sym (number-some k)
+
+-- ---- one part more
+
+-- with the field of the kind that the number n stands for
+abbrev pub turned : ℕ → Fields → Place → ℕ → Fields
+turned n f p i = record {
+  name = cond (eqb n 1) (earlierOf (f .name) p i) (f .name);
+  post = cond (eqb n 2) (earlierOf (f .post) p i) (f .post);
+  id = cond (eqb n 3) (earlierOf (f .id) p i) (f .id);
+  date = cond (eqb n 4) (earlierOf (f .date) p i) (f .date);
+  time = cond (eqb n 5) (earlierOf (f .time) p i) (f .time);
+}
+
+module _ (s : List ℕ) (f : Fields) (p : Place) (i n : ℕ) (t : Tells (λ k. counts k (partOf s p)) n) where
+  pub step-turned : (m : ℕ) → n ≡ m → FieldsStep s f p i (turned m f p i)
+  step-turned m e = record { step = λ k. rw (t .is k, e) (of k) }
+    where
+      of : (k : Kind) → fieldAs k (turned m f p i) ≡ cond (eqb m (number k)) (earlierOf (fieldAs k f) p i) (fieldAs k f)
+      of Name = refl
+      of PostId = refl
+      of Id = refl
+      of Date = refl
+      of Time = refl
+
+  pub step-none : (n ≡ 1 → ⊥) → (n ≡ 2 → ⊥) → (n ≡ 3 → ⊥) → (n ≡ 4 → ⊥) → (n ≡ 5 → ⊥) → FieldsStep s f p i f
+  step-none n1 n2 n3 n4 n5 = record { step = λ k. rw (t .is k, ne-eqb n (number k) (other k)) }
+    where
+      other : (k : Kind) → n ≡ number k → ⊥
+      other Name = n1
+      other PostId = n2
+      other Id = n3
+      other Date = n4
+      other Time = n5
 
 -- ---- all kinds
 
 pub record Reading (s : List ℕ) (i at : ℕ) (f : Fields) : Type 0 where
   pub stands : Stands s i at
   pub slow : i ≤ at
-  pub name : Found s Name i at (f .name)
-  pub post : Found s PostId i at (f .post)
-  pub id : Found s Id i at (f .id)
-  pub date : Found s Date i at (f .date)
-  pub time : Found s Time i at (f .time)
+  pub found : (k : Kind) → Found s k i at (fieldAs k f)
 
-pub read-first : (s : List ℕ) (at : ℕ) → Stands s 0 at → Reading s 0 at (record { name = nothing; post = nothing; id = nothing; date = nothing; time = nothing })
-read-first s at st = record { stands = st; slow = omega arith; name = found-first s Name at st; post = found-first s PostId at st; id = found-first s Id at st; date = found-first s Date at st; time = found-first s Time at st }
+-- behind the leading id
+pub read-lead : (s : List ℕ) (l : Lead) → LeadAt s l → Reading s (l .count) (l .next) noFields
+read-lead s l h = record { stands = h .stands; slow = h .slow; found = λ k. rw (none k) (found-lead s k l h) }
+  where
+    none : (k : Kind) → fieldAs k noFields ≡ nothing
+    none Name = refl
+    none PostId = refl
+    none Id = refl
+    none Date = refl
+    none Time = refl
 
-module _ {s : List ℕ} {i at : ℕ} {p : Place} {f : Fields} (r : Reading s i at f) (sc : Scanned s at p) where
-  -- the field of the kind that the part is of
-  abbrev taken : Field → Field
-  taken g = cond (eqb (g .size) 0) (record { from = p .from; size = p .size; index = i }) g
-
-  stood : Stands s (i + 1) (p .next)
-  stood = scan-on s i at p (r .stands) sc
-
-  slow-on : i + 1 ≤ p .next
-  slow-on = omega (arith, sc .grows, r .slow)
-
-  passed : (k : Kind) (g : Field) → Found s k i at g → counts k (partOf s p) ≡ false → Found s k (i + 1) (p .next) g
-  passed k g d h = found-passed s k i at p g (r .stands) sc d h
-
-  own : (k : Kind) (g : Field) → Found s k i at g → counts k (partOf s p) ≡ true → Found s k (i + 1) (p .next) (taken g)
-  own k g d h = found-here s k i at p g (r .stands) sc d h
-
-  pub read-none : counts Name (partOf s p) ≡ false → counts PostId (partOf s p) ≡ false → counts Id (partOf s p) ≡ false → counts Date (partOf s p) ≡ false → counts Time (partOf s p) ≡ false → Reading s (i + 1) (p .next) f
-  read-none n o e d t = record { stands = stood; slow = slow-on; name = passed Name (f .name) (r .name) n; post = passed PostId (f .post) (r .post) o; id = passed Id (f .id) (r .id) e; date = passed Date (f .date) (r .date) d; time = passed Time (f .time) (r .time) t }
-
-  pub read-text : p .keylen ≡ 0 → Reading s (i + 1) (p .next) f
-  read-text z = read-none (no-field s p Name z) (no-field s p PostId z) (no-field s p Id z) (no-field s p Date z) (no-field s p Time z)
-
-  module _ (j : Kind) (h : counts j (partOf s p) ≡ true) where
-    other : (k : Kind) (g : Field) → Found s k i at g → eqb (number k) (number j) ≡ false → Found s k (i + 1) (p .next) g
-    other k g d n = passed k g d (other-kind j k (partOf s p) h n)
-
-  pub read-name : counts Name (partOf s p) ≡ true → Reading s (i + 1) (p .next) (record { name = taken (f .name); post = f .post; id = f .id; date = f .date; time = f .time })
-  read-name h = record { stands = stood; slow = slow-on; name = own Name (f .name) (r .name) h; post = other Name h PostId (f .post) (r .post) refl; id = other Name h Id (f .id) (r .id) refl; date = other Name h Date (f .date) (r .date) refl; time = other Name h Time (f .time) (r .time) refl }
-
-  pub read-post : counts PostId (partOf s p) ≡ true → Reading s (i + 1) (p .next) (record { name = f .name; post = taken (f .post); id = f .id; date = f .date; time = f .time })
-  read-post h = record { stands = stood; slow = slow-on; name = other PostId h Name (f .name) (r .name) refl; post = own PostId (f .post) (r .post) h; id = other PostId h Id (f .id) (r .id) refl; date = other PostId h Date (f .date) (r .date) refl; time = other PostId h Time (f .time) (r .time) refl }
-
-  pub read-id : counts Id (partOf s p) ≡ true → Reading s (i + 1) (p .next) (record { name = f .name; post = f .post; id = taken (f .id); date = f .date; time = f .time })
-  read-id h = record { stands = stood; slow = slow-on; name = other Id h Name (f .name) (r .name) refl; post = other Id h PostId (f .post) (r .post) refl; id = own Id (f .id) (r .id) h; date = other Id h Date (f .date) (r .date) refl; time = other Id h Time (f .time) (r .time) refl }
-
-  pub read-date : counts Date (partOf s p) ≡ true → Reading s (i + 1) (p .next) (record { name = f .name; post = f .post; id = f .id; date = taken (f .date); time = f .time })
-  read-date h = record { stands = stood; slow = slow-on; name = other Date h Name (f .name) (r .name) refl; post = other Date h PostId (f .post) (r .post) refl; id = other Date h Id (f .id) (r .id) refl; date = own Date (f .date) (r .date) h; time = other Date h Time (f .time) (r .time) refl }
-
-  pub read-time : counts Time (partOf s p) ≡ true → Reading s (i + 1) (p .next) (record { name = f .name; post = f .post; id = f .id; date = f .date; time = taken (f .time) })
-  read-time h = record { stands = stood; slow = slow-on; name = other Time h Name (f .name) (r .name) refl; post = other Time h PostId (f .post) (r .post) refl; id = other Time h Id (f .id) (r .id) refl; date = other Time h Date (f .date) (r .date) refl; time = own Time (f .time) (r .time) h }
+pub read-on : {s : List ℕ} {i at : ℕ} {p : Place} {f g : Fields} → Reading s i at f → Scanned s at p → FieldsStep s f p i g → Reading s (i + 1) (p .next) g
+read-on {s} {i} {at} {p} {f} {g} r sc st = record { stands = scan-on s i at p (r .stands) sc; slow = omega (arith, sc .grows, r .slow); found = λ k. rw (st .step k) (by k (counts k (partOf s p)) refl) }
+  where
+    by : (k : Kind) (t : Bool) → counts k (partOf s p) ≡ t → Found s k (i + 1) (p .next) (cond t (earlierOf (fieldAs k f) p i) (fieldAs k f))
+    by k true h = found-here s k i at p (fieldAs k f) (r .stands) sc (r .found k) h
+    by k false h = found-passed s k i at p (fieldAs k f) (r .stands) sc (r .found k) h
 
 pub read-all : {s : List ℕ} {i at : ℕ} {f : Fields} → Reading s i at f → length s ≤ at → FieldsAt s f
-read-all {s} {i} {at} {f} r le = record { name = all Name (f .name) (r .name); post = all PostId (f .post) (r .post); id = all Id (f .id) (r .id); date = all Date (f .date) (r .date); time = all Time (f .time) (r .time) }
+read-all {s} {i} {at} {f} r le = record { name = all Name; post = all PostId; id = all Id; date = all Date; time = all Time }
   where
-    all : (k : Kind) (g : Field) → Found s k i at g → FieldAt s k g
-    all k g = found-all s k i at g (r .stands) le
+    all : (k : Kind) → FieldAt s k (fieldAs k f)
+    all k = found-all s k i at (fieldAs k f) (r .stands) le (r .found k)

@@ -15,7 +15,7 @@ use Rattle.attribution_parts.specs.declared.Kind.the-variants.{Name, PostId, Id
 use Rattle.attribution_parts.specs.Parts.{Part, text, isSpace, value, inQuotes, startsKey, inKey, keySize, partAt, here, more, parts}
 use Rattle.attribution_parts.specs.Attribution.{first, fieldOf}
 use Rattle.attribution_reading.specs.Reads.{FieldAt, FieldsAt}
-use Rattle.attribution_reading.proofs.Fielding.{nothing, no-such-field, found-none}
+use Rattle.attribution_reading.proofs.Fielding.{nothing, noFields, no-such-field, found-none}
 
 pub data NoFields : List Part → Type 0 where
   no-part : NoFields []
@@ -61,7 +61,7 @@ module _ (k : Kind) where
   pub field-none : (ps : List Part) → NoFields ps → fieldOf k ps ≡ []
   field-none ps h = no-such-field k ps (let e = first-none h in omega (arith, e))
 
-pub read-nothing : (s : List ℕ) → NoFields (parts 0 s) → FieldsAt s (record { name = nothing; post = nothing; id = nothing; date = nothing; time = nothing })
+pub read-nothing : (s : List ℕ) → NoFields (parts 0 s) → FieldsAt s noFields
 read-nothing s h = record { name = none Name; post = none PostId; id = none Id; date = none Date; time = none Time }
   where
     none : (k : Kind) → FieldAt s k nothing

@@ -404,13 +404,16 @@ empty-bytes : (s : List ℕ) (f z : ℕ) → z ≤ 0 → bytes s f z ≡ []
 unfolding bytes
 empty-bytes s f z h = let e : z ≡ 0 = omega arith in rw e
 
-module _ (s : List ℕ) (l : Last) (h : LastAt s (leading (parts 0 s)) l) (f : Fields) (fs : FieldsAt s f) (d : Lead) (ld : LeadAt s d) where
+module _ (s : List ℕ) (l : Last) (f : Fields) (fs : FieldsAt s f) (d : Lead) (ld : LeadAt s d) (h : LastAt s (d .count) l) where
+  pub last-lead : LastAt s (leading (parts 0 s)) l
+  last-lead = rw (← ld .count) h
+
   pub by-post : 0 < f .post .size → EndsAt s (record { end = l .end; cut = 0; kept = l .total; from = f .post .from; size = f .post .size })
   unfolding given
   by-post lt =
       let w = fs .post .words in
       let n = length-bytes s (f .post .from) (f .post .size) (fs .post .inside) in
-      ends-given s l h (f .post .from) (f .post .size) (fs .post .inside) lt
+      ends-given s l last-lead (f .post .from) (f .post .size) (fs .post .inside) lt
       (w ∙ sym (else-some (fieldOf PostId (parts 0 s)) (orElse (fieldOf Id (parts 0 s)) (leadingId (parts 0 s))) (omega (arith, n, ap length w)) .0))
 
   module _ (np : f .post .size ≤ 0) where
@@ -422,7 +425,7 @@ module _ (s : List ℕ) (l : Last) (h : LastAt s (leading (parts 0 s)) l) (f : F
     by-id lt =
         let w = fs .id .words in
         let n = length-bytes s (f .id .from) (f .id .size) (fs .id .inside) in
-        ends-given s l h (f .id .from) (f .id .size) (fs .id .inside) lt
+        ends-given s l last-lead (f .id .from) (f .id .size) (fs .id .inside) lt
         (w ∙ sym (no-post ∙ else-some (fieldOf Id (parts 0 s)) (leadingId (parts 0 s)) (omega (arith, n, ap length w)) .0))
 
     module _ (ni : f .id .size ≤ 0) where
@@ -430,7 +433,7 @@ module _ (s : List ℕ) (l : Last) (h : LastAt s (leading (parts 0 s)) l) (f : F
       no-id = no-post ∙ rw (← fs .id .words, empty-bytes s (f .id .from) (f .id .size) ni)
 
       pub by-lead : 0 < d .size → EndsAt s (record { end = l .end; cut = 0; kept = l .total; from = d .from; size = d .size })
-      by-lead lt = ends-given s l h (d .from) (d .size) (ld .inside) lt (ld .words ∙ sym no-id)
+      by-lead lt = ends-given s l last-lead (d .from) (d .size) (ld .inside) lt (ld .words ∙ sym no-id)
 
       pub by-none : d .size ≤ 0 → given (parts 0 s) ≡ []
       by-none z = no-id ∙ sym (ld .words) ∙ empty-bytes s (d .from) (d .size) z

@@ -1,6 +1,10 @@
 -- What the code reads off an attribution, by places in it.
+--   number k          what stands for the kind k in the code, which has 0 for none
+--   Tells test n      the number n stands for the kind that the test holds of
 --   FieldAt s k f     the first usable field of kind k: where its value stands, and which part is it
 --   FieldsAt s f      this for all five kinds
+--   fieldAs k f       of five fields the one of kind k
+--   FieldsStep        one part more for all five
 --   LeadAt s l        the leading id, and where the part behind it begins
 --   LastIn s i xs l   of the parts xs, of which the first has the index i: the last text that is not empty
 --   LastAt s i l      this for all parts from i on
@@ -8,7 +12,7 @@
 -- Assumes nothing.
 use mathlib.Core.Path.{_≡_}
 use Prim.Native.Nat.{ℕ, zero, suc, _+_, _-_, _≤_, _<_}
-use mathlib.Core.Bool.{Bool, true, false, _&&_}
+use mathlib.Core.Bool.{Bool, true, false, cond, _&&_}
 use mathlib.Core.List.{List, [], _∷_, _++_}
 use lib.ListN.{length, drop}
 use lib.Dec.{eqb, ltb}
@@ -22,8 +26,18 @@ use Rattle.attribution_reading.specs.declared.facts.Last.{Last}
 use Rattle.attribution_reading.specs.declared.facts.Ends.{Ends}
 use Rattle.attribution_reading.specs.declared.scan.Place.{Place}
 use Rattle.attribution_parts.specs.Parts.{Part, parts}
-use Rattle.attribution_parts.specs.Attribution.{first, fieldOf, leading, leadingId, textsOf, toSuffix, kept, suffix, id}
+use Rattle.attribution_parts.specs.Attribution.{counts, first, fieldOf, leading, leadingId, textsOf, toSuffix, kept, suffix, id}
 use Rattle.attribution_reading.specs.Places.{bytes, partOf, Stands}
+
+abbrev pub number : Kind → ℕ
+number Name = 1
+number PostId = 2
+number Id = 3
+number Date = 4
+number Time = 5
+
+pub record Tells (test : Kind → Bool) (n : ℕ) : Type 0 where
+  pub is : (k : Kind) → test k ≡ eqb n (number k)
 
 pub record FieldAt (s : List ℕ) (k : Kind) (f : Field) : Type 0 where
   pub words : bytes s (f .from) (f .size) ≡ fieldOf k (parts 0 s)
@@ -36,6 +50,21 @@ pub record FieldsAt (s : List ℕ) (f : Fields) : Type 0 where
   pub id : FieldAt s Id (f .id)
   pub date : FieldAt s Date (f .date)
   pub time : FieldAt s Time (f .time)
+
+abbrev pub fieldAs : Kind → Fields → Field
+fieldAs Name f = f .name
+fieldAs PostId f = f .post
+fieldAs Id f = f .id
+fieldAs Date f = f .date
+fieldAs Time f = f .time
+
+-- the field that was found before, else the one at the place p, which has the index i
+abbrev pub earlierOf : Field → Place → ℕ → Field
+earlierOf f p i = cond (eqb (f .size) 0) (record { from = p .from; size = p .size; index = i }) f
+
+-- from f to r, the part at the place p, which has the index i, has been read
+pub record FieldsStep (s : List ℕ) (f : Fields) (p : Place) (i : ℕ) (r : Fields) : Type 0 where
+  pub step : (k : Kind) → fieldAs k r ≡ cond (counts k (partOf s p)) (earlierOf (fieldAs k f) p i) (fieldAs k f)
 
 pub record LeadAt (s : List ℕ) (l : Lead) : Type 0 where
   pub words : bytes s (l .from) (l .size) ≡ leadingId (parts 0 s)

@@ -20,7 +20,20 @@ ghost use Rattle.text.specs.Ascii.{is, toFirst, spells, digits};
 ghost use Rattle.attribution_parts.specs.Attribution.{isKind, isUsable, counts, isLeading, leading, given, toSuffix};
 ghost use Rattle.attribution_parts.specs.Parts.{parts};
 ghost use Rattle.attribution_reading.specs.Places.{partOf, Stands};
-ghost use Rattle.attribution_reading.specs.Reads.{FieldsAt, LeadAt, LastStep, LastAt, EndsAt};
+ghost use Rattle.attribution_reading.specs.Reads.{Tells, FieldsStep, FieldsAt, LeadAt, LastStep, LastAt, EndsAt};
+
+// The kinds of fields by number, and what is of none.
+const NONE: u32 = 0;
+
+const NAME: u32 = 1;
+
+const POST_ID: u32 = 2;
+
+const ID: u32 = 3;
+
+const DATE: u32 = 4;
+
+const TIME: u32 = 5;
 
 // Where a field's value stands (no bytes: there is none), and the field's index.
 pub struct Field {
@@ -62,6 +75,13 @@ pub struct Ends {
     pub kept: usize,
     pub from: usize,
     pub size: usize,
+}
+
+// What is read off an attribution.
+pub struct Facts {
+    pub fields: Fields,
+    pub lead: Lead,
+    pub ends: Ends,
 }
 
 fn is_word(word: &[u8], key: &[u8]) -> bool
@@ -130,6 +150,68 @@ pub fn counts_as(s: &[u8], p: Place, k: Kind) -> bool
     false
 }
 
+// The kind of a key. Its length leaves three words at most to compare.
+fn kind_of_key(key: &[u8]) -> u32
+    ensures { λ r. ⌜ Tells (λ k. isKind k (now (key .entry))) r ⌝ }
+{
+    let n = key.len();
+    if n == 2 {
+        if is_word(b"id", key) {
+            return ID;
+        }
+        return NONE;
+    }
+    if n == 4 {
+        if is_word(b"name", key) {
+            return NAME;
+        }
+        if is_word(b"date", key) {
+            return DATE;
+        }
+        if is_word(b"time", key) {
+            return TIME;
+        }
+        return NONE;
+    }
+    if n == 6 {
+        if is_word(b"author", key) {
+            return NAME;
+        }
+        return NONE;
+    }
+    if n == 7 {
+        if is_word(b"post_id", key) {
+            return POST_ID;
+        }
+    }
+    NONE
+}
+
+// The kind that a part is a usable field of.
+fn kind_of_part(s: &[u8], p: Place) -> u32
+    requires { ⌜ (p .key + p .keylen ≤ length (now s)) × (p .from + p .size ≤ length (now s)) ⌝ }
+    ensures { λ r. ⌜ Tells (λ k. counts k (partOf (now (s .entry)) p)) r ⌝ }
+{
+    if p.keylen == 0 {
+        return NONE;
+    }
+    let key = p.key;
+    let key_end = key + p.keylen;
+    let k = kind_of_key(&s[key..key_end]);
+    if (k == POST_ID) | (k == ID) {
+        let from = p.from;
+        let end = from + p.size;
+        if is_digits(&s[from..end]) {
+            return k;
+        }
+        return NONE;
+    }
+    if 0 < p.size {
+        return k;
+    }
+    NONE
+}
+
 // The field that was found before, else the one that is found here.
 fn earlier(found: Field, here: Field) -> Field
     ensures { λ r. ⌜ r ≡ cond (eqb (found .size) 0) here found ⌝ }
@@ -148,61 +230,44 @@ pub fn has_equals(s: &[u8]) -> bool
     equals.0 < s.len()
 }
 
-// One pass over the parts, where a `=` stands at all. A part is a usable field of one kind at most.
-pub fn read_fields(s: &[u8]) -> Fields
-    ensures { λ r. ⌜ FieldsAt (now (s .entry)) r ⌝ }
+// The first usable fields, and then the part behind them at the place p, which has the index i.
+fn with_field(s: &[u8], fields: Fields, p: Place, i: usize) -> Fields
+    requires { ⌜ (p .key + p .keylen ≤ length (now s)) × (p .from + p .size ≤ length (now s)) ⌝ }
+    ensures { λ r. ⌜ FieldsStep (now (s .entry)) fields p i r ⌝ }
 {
-    let none = Field {
-        from: 0,
-        size: 0,
-        index: 0,
+    let k = kind_of_part(s, p);
+    let here = Field {
+        from: p.from,
+        size: p.size,
+        index: i,
     };
-    if !has_equals(s) {
-        return Fields {
-            name: none,
-            post: none,
-            id: none,
-            date: none,
-            time: none,
-        };
+    let mut r = fields;
+    if k == NAME {
+        let name = earlier(fields.name, here);
+        r.name = name;
+        return r;
     }
-    let mut name = none;
-    let mut post = none;
-    let mut id = none;
-    let mut date = none;
-    let mut time = none;
-    let mut i: usize = 0;
-    let mut at = first_at(s);
-    while at < s.len() {
-        let p = read_part(s, at);
-        let here = Field {
-            from: p.from,
-            size: p.size,
-            index: i,
-        };
-        i += 1;
-        at = p.next;
-        if p.keylen != 0 {
-            if counts_as(s, p, Kind::Name) {
-                name = earlier(name, here);
-            } else if counts_as(s, p, Kind::PostId) {
-                post = earlier(post, here);
-            } else if counts_as(s, p, Kind::Id) {
-                id = earlier(id, here);
-            } else if counts_as(s, p, Kind::Date) {
-                date = earlier(date, here);
-            } else if counts_as(s, p, Kind::Time) {
-                time = earlier(time, here);
-            }
-        }
+    if k == POST_ID {
+        let post = earlier(fields.post, here);
+        r.post = post;
+        return r;
     }
-    Fields {
-        name: name,
-        post: post,
-        id: id,
-        date: date,
-        time: time,
+    if k == ID {
+        let id = earlier(fields.id, here);
+        r.id = id;
+        return r;
     }
+    if k == DATE {
+        let date = earlier(fields.date, here);
+        r.date = date;
+        return r;
+    }
+    if k == TIME {
+        let time = earlier(fields.time, here);
+        r.time = time;
+        return r;
+    }
+    r
 }
 
 // Whether a part is a leading id, where it is the first one.
@@ -347,11 +412,10 @@ fn split_of(s: &[u8], last: Last) -> Ends
 }
 
 // The split and the caption's id.
-pub fn read_ends(s: &[u8], fields: Fields, lead: Lead) -> Ends
-    requires { ⌜ (length (now s) ≤ 1073741824) × (FieldsAt (now s) fields × LeadAt (now s) lead) ⌝ }
+fn ends_of(s: &[u8], fields: Fields, lead: Lead, last: Last) -> Ends
+    requires { ⌜ (length (now s) ≤ 1073741824) × (FieldsAt (now s) fields × (LeadAt (now s) lead × LastAt (now s) (lead .count) last)) ⌝ }
     ensures { λ r. ⌜ EndsAt (now (s .entry)) r ⌝ }
 {
-    let last = last_text(s, lead.count, lead.next);
     let post = fields.post;
     if 0 < post.size {
         return Ends {
@@ -382,4 +446,55 @@ pub fn read_ends(s: &[u8], fields: Fields, lead: Lead) -> Ends
         };
     }
     split_of(s, last)
+}
+
+// What an attribution says. Behind the leading id, which is no field, one pass over the parts finds the fields and the last text; without a
+// `=` there are no fields.
+pub fn read_facts(s: &[u8]) -> Facts
+    requires { ⌜ length (now s) ≤ 1073741824 ⌝ }
+    ensures { λ r. ⌜ FieldsAt (now (s .entry)) (r .fields) × (LeadAt (now (s .entry)) (r .lead) × EndsAt (now (s .entry)) (r .ends)) ⌝ }
+{
+    let none = Field {
+        from: 0,
+        size: 0,
+        index: 0,
+    };
+    let mut fields = Fields {
+        name: none,
+        post: none,
+        id: none,
+        date: none,
+        time: none,
+    };
+    let lead = leading_id(s);
+    if !has_equals(s) {
+        let last = last_text(s, lead.count, lead.next);
+        let ends = ends_of(s, fields, lead, last);
+        return Facts {
+            fields: fields,
+            lead: lead,
+            ends: ends,
+        };
+    }
+    let mut last = Last {
+        from: 0,
+        size: 0,
+        end: 0,
+        total: 0,
+    };
+    let mut i = lead.count;
+    let mut at = lead.next;
+    while at < s.len() {
+        let p = read_part(s, at);
+        fields = with_field(s, fields, p, i);
+        last = with_part(s, last, p, i);
+        i += 1;
+        at = p.next;
+    }
+    let ends = ends_of(s, fields, lead, last);
+    Facts {
+        fields: fields,
+        lead: lead,
+        ends: ends,
+    }
 }

@@ -11,9 +11,7 @@ use Rattle.attribution_losses.proofs.loss.put_losses.Tie as tie
 use Rattle.attribution_losses.proofs.loss.put_losses.Reads as reads
 use Rattle.attribution_losses.proofs.loss.put_losses.Lts as lts
 use Rattle.attribution_reading.proofs.facts.has_equals.Reads as has-equals-reads
-use Rattle.attribution_reading.proofs.facts.leading_id.Reads as leading-id-reads
-use Rattle.attribution_reading.proofs.facts.read_ends.Reads as read-ends-reads
-use Rattle.attribution_reading.proofs.facts.read_fields.Reads as read-fields-reads
+use Rattle.attribution_reading.proofs.facts.read_facts.Reads as read-facts-reads
 use Rattle.attribution_losses.proofs.loss.is_day.Reads as is-day-reads
 use Rattle.attribution_losses.proofs.loss.is_passed.Reads as is-passed-reads
 use Rattle.attribution_losses.proofs.loss.put_groups.Reads as put-groups-reads
@@ -25,14 +23,8 @@ has-equals-requires c κs = search needs
 returns : tie.Need-returns
 returns c = let a = c .before .before .before .before .before .args in none-listed (a .attribution .now) (sym (c .before .has-equals .ensures) ∙ not-true _ (c .if1 .taken)) (a .quote) (a .line) _ (a .k) _ (a .at)
 
-read-fields-requires : tie.Need-read-fields-requires
-read-fields-requires c κs = search needs
-
-leading-id-requires : tie.Need-leading-id-requires
-leading-id-requires c κs = search needs
-
-read-ends-requires : tie.Need-read-ends-requires
-read-ends-requires c κs = search needs
+read-facts-requires : tie.Need-read-facts-requires
+read-facts-requires c κs = search needs
 
 is-day-requires : tie.Need-is-day-requires
 is-day-requires c κs = search needs
@@ -41,10 +33,10 @@ is-passed-requires : tie.Need-is-passed-requires
 is-passed-requires c κs = search needs
 
 put-passed-requires : tie.Need-put-passed-requires
-put-passed-requires c κs = let pre = c .before .before .before .before .before .before .before .before .before .before .before .before .pre in (omega (arith, pre .1 .0), omega (arith, pre .1 .1))
+put-passed-requires c κs = let pre = c .before .before .before .before .before .before .before .before .before .before .before .before .before .pre in (omega (arith, pre .1 .0), omega (arith, pre .1 .1))
 
 put-groups-requires : tie.Need-put-groups-requires
-put-groups-requires c κs = let pre = c .before .before .before .before .before .before .before .before .before .before .before .before .before .before .before .before .before .before .before .pre in let a = c .before .before .before .before .before .before .before .before .before .before .before .before .before .before .before .before .before .before .before .args in let f = c .before .before .before .before .before .before .before .before .before .before .before .before .before .read-fields .ensures in let g = groups-room (a .attribution .now) _ _ (c .before .before .before .before .before .before .before .before .before .before .before .before .leading-id .ensures) f _ (c .before .before .before .before .before .before .before .before .before .is-passed .ensures) (a .quote) (a .line) (a .k) (a .at) _ _ _ _ _ (c .before .before .before .before .before .before .put-passed .ensures) (pre .1 .0) (pre .1 .1) in (g .0, (record { fields = f; seconds = c .before .before .before .before .before .before .before .before .before .before .is-day .ensures; ends = c .before .before .before .before .before .before .before .before .before .before .before .read-ends .ensures }, g .1))
+put-groups-requires c κs = let pre = c .before .before .before .before .before .before .before .before .before .before .before .before .before .before .before .before .before .before .before .before .pre in let a = c .before .before .before .before .before .before .before .before .before .before .before .before .before .before .before .before .before .before .before .before .args in let h = c .before .before .before .before .before .before .before .before .before .before .before .before .before .before .read-facts .ensures in let g = groups-room (a .attribution .now) _ _ (h .1 .0) (h .0) _ (c .before .before .before .before .before .before .before .before .before .is-passed .ensures) (a .quote) (a .line) (a .k) (a .at) _ _ _ _ _ (c .before .before .before .before .before .before .put-passed .ensures) (pre .1 .0) (pre .1 .1) in (g .0, (record { fields = h .0; seconds = c .before .before .before .before .before .before .before .before .before .before .is-day .ensures; ends = h .1 .1 }, g .1))
 
 same-length : tie.Need-same-length
 same-length c = search needs
@@ -53,7 +45,7 @@ same-length-2 : tie.Need-same-length-2
 same-length-2 c = search needs
 
 returns-2 : tie.Need-returns-2
-returns-2 c = let a = c .before .before .before .before .before .before .before .before .before .before .before .before .before .before .before .before .before .before .before .before .before .before .before .before .args in all-listed (a .attribution .now) _ _ (c .before .before .before .before .before .before .before .before .before .before .before .before .before .before .before .before .before .leading-id .ensures) (c .before .before .before .before .before .before .before .before .before .before .before .before .before .before .before .before .before .before .read-fields .ensures) _ (c .before .before .before .before .before .before .before .before .before .before .before .before .before .before .is-passed .ensures) (a .quote) (a .line) (a .k) (a .at) _ _ _ _ _ (c .before .before .before .before .before .before .before .before .before .before .before .put-passed .ensures) _ _ _ (c .before .before .before .before .put-groups .ensures)
+returns-2 c = let a = c .before .before .before .before .before .before .before .before .before .before .before .before .before .before .before .before .before .before .before .before .before .before .before .before .before .args in let h = c .before .before .before .before .before .before .before .before .before .before .before .before .before .before .before .before .before .before .before .read-facts .ensures in all-listed (a .attribution .now) _ _ (h .1 .0) (h .0) _ (c .before .before .before .before .before .before .before .before .before .before .before .before .before .before .is-passed .ensures) (a .quote) (a .line) (a .k) (a .at) _ _ _ _ _ (c .before .before .before .before .before .before .before .before .before .before .before .put-passed .ensures) _ _ _ (c .before .before .before .before .put-groups .ensures)
 
 pub put-losses-spec : {M : Type 1} → statement M
 put-losses-spec =
@@ -61,9 +53,7 @@ put-losses-spec =
     (tie.spec
     has-equals-requires
     returns
-    read-fields-requires
-    leading-id-requires
-    read-ends-requires
+    read-facts-requires
     is-day-requires
     is-passed-requires
     put-passed-requires
