@@ -1,7 +1,6 @@
 // The joined texts, where they make the name: written behind the attribution in one slice.
 use crate::loss::put_byte;
-use attribution_parts::Kind;
-use attribution_reading::facts::counts_as;
+use attribution_reading::facts::is_name;
 use attribution_reading::facts::leading_id;
 use attribution_reading::reader::read_part;
 ghost use mathlib.Core.Path.{_≡_};
@@ -65,7 +64,7 @@ pub fn join_texts(work: &mut [u8], a: usize, e: usize, at: usize) -> usize
     let mut to = at;
     while pos < e - a {
         let p = read_part(&work[a..e], pos);
-        if counts_as(&work[a..e], p, Kind::Name) {
+        if is_name(&work[a..e], p) {
             return at;
         }
         to = put_more(work, p.keylen, a + p.from, p.size, at, to);

@@ -4,7 +4,6 @@ use crate::reader::read_part;
 use crate::reader::reader_at;
 use crate::scan::Place;
 use crate::scan::first_at;
-use attribution_parts::Kind;
 use day::all_digits;
 use text::PostAt;
 use text::scan::begins_at;
@@ -17,7 +16,8 @@ ghost use Prim.Native.Nat.{_+_, _≤_, _<_};
 ghost use lib.Dec.{eqb, ltb};
 ghost use lib.ListN.{length};
 ghost use Rattle.text.specs.Ascii.{is, toFirst, spells, digits};
-ghost use Rattle.attribution_parts.specs.Attribution.{isKind, isUsable, counts, isLeading, leading, given, toSuffix};
+ghost use Rattle.attribution_parts.specs.declared.Kind.the-variants.{Name};
+ghost use Rattle.attribution_parts.specs.Attribution.{isKind, counts, isLeading, leading, given, toSuffix};
 ghost use Rattle.attribution_parts.specs.Parts.{parts};
 ghost use Rattle.attribution_reading.specs.Places.{partOf, Stands};
 ghost use Rattle.attribution_reading.specs.Reads.{Tells, FieldsStep, FieldsAt, LeadAt, LastStep, LastAt, EndsAt};
@@ -93,23 +93,6 @@ fn is_word(word: &[u8], key: &[u8]) -> bool
     false
 }
 
-fn is_kind(k: Kind, key: &[u8]) -> bool
-    ensures { λ r. ⌜ r ≡ isKind k (now (key .entry)) ⌝ }
-{
-    match k {
-        Kind::Name => {
-            if is_word(b"name", key) {
-                return true;
-            }
-            is_word(b"author", key)
-        }
-        Kind::PostId => is_word(b"post_id", key),
-        Kind::Id => is_word(b"id", key),
-        Kind::Date => is_word(b"date", key),
-        Kind::Time => is_word(b"time", key),
-    }
-}
-
 // One or more digits.
 fn is_digits(s: &[u8]) -> bool
     ensures { λ r. ⌜ r ≡ digits (now (s .entry)) ⌝ }
@@ -118,36 +101,6 @@ fn is_digits(s: &[u8]) -> bool
         return false;
     }
     all_digits(s)
-}
-
-fn is_usable(k: Kind, value: &[u8]) -> bool
-    ensures { λ r. ⌜ r ≡ isUsable k (now (value .entry)) ⌝ }
-{
-    match k {
-        Kind::Name => 0 < value.len(),
-        Kind::PostId => is_digits(value),
-        Kind::Id => is_digits(value),
-        Kind::Date => 0 < value.len(),
-        Kind::Time => 0 < value.len(),
-    }
-}
-
-// Whether a part is a usable field of a kind.
-pub fn counts_as(s: &[u8], p: Place, k: Kind) -> bool
-    requires { ⌜ (p .key + p .keylen ≤ length (now s)) × (p .from + p .size ≤ length (now s)) ⌝ }
-    ensures { λ r. ⌜ r ≡ counts k (partOf (now (s .entry)) p) ⌝ }
-{
-    if p.keylen == 0 {
-        return false;
-    }
-    let key = p.key;
-    let key_end = key + p.keylen;
-    if is_kind(k, &s[key..key_end]) {
-        let from = p.from;
-        let end = from + p.size;
-        return is_usable(k, &s[from..end]);
-    }
-    false
 }
 
 // The kind of a key. Its length leaves three words at most to compare.
@@ -210,6 +163,14 @@ fn kind_of_part(s: &[u8], p: Place) -> u32
         return k;
     }
     NONE
+}
+
+// Whether a part is a usable name field.
+pub fn is_name(s: &[u8], p: Place) -> bool
+    requires { ⌜ (p .key + p .keylen ≤ length (now s)) × (p .from + p .size ≤ length (now s)) ⌝ }
+    ensures { λ r. ⌜ r ≡ counts Name (partOf (now (s .entry)) p) ⌝ }
+{
+    kind_of_part(s, p) == NAME
 }
 
 // The field that was found before, else the one that is found here.

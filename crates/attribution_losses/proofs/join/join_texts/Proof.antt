@@ -12,7 +12,7 @@ use Rattle.attribution_losses.proofs.join.join_texts.Tie as tie
 use Rattle.attribution_losses.proofs.join.join_texts.Reads as reads
 use Rattle.attribution_losses.proofs.join.join_texts.Lts as lts
 use Rattle.attribution_losses.proofs.join.put_more.Reads as put-more-reads
-use Rattle.attribution_reading.proofs.facts.counts_as.Reads as counts-as-reads
+use Rattle.attribution_reading.proofs.facts.is_name.Reads as is-name-reads
 use Rattle.attribution_reading.proofs.facts.leading_id.Reads as leading-id-reads
 use Rattle.attribution_reading.proofs.reader.read_part.Reads as read-part-reads
 
@@ -54,24 +54,24 @@ read-part-requires : tie.Need-read-part-requires Inv-loop μ-loop
 unfolding bytes
 read-part-requires c κs = let x = c .before .before .before .before .before .before .before .before .args in let l = c .before .before .before .loop .inv in let pre = c .before .before .before .before .before .before .before .before .pre in let b = join-begins (x .work .now) (x .a) (x .e - x .a) (x .at) _ _ _ l (omega (arith, pre .0 .0, pre .0 .1 .0)) (omega (arith, pre .0 .0, pre .0 .1 .1)) (c .before .before .loop-test .taken) in (b .0, b .1 .begins (b .0))
 
-sub-counts-as : tie.Need-sub-counts-as Inv-loop μ-loop
-sub-counts-as c = search needs
+sub-is-name : tie.Need-sub-is-name Inv-loop μ-loop
+sub-is-name c = search needs
 
-part-counts-as-start : tie.Need-part-counts-as-start Inv-loop μ-loop
-part-counts-as-start c = search needs
+part-is-name-start : tie.Need-part-is-name-start Inv-loop μ-loop
+part-is-name-start c = search needs
 
-part-counts-as-end : tie.Need-part-counts-as-end Inv-loop μ-loop
-part-counts-as-end c = let l = c .before .before .before .before .before .loop .inv in let pre = c .before .before .before .before .before .before .before .before .before .before .pre in omega (arith, l .puts .size, pre .0 .1 .1)
+part-is-name-end : tie.Need-part-is-name-end Inv-loop μ-loop
+part-is-name-end c = let l = c .before .before .before .before .before .loop .inv in let pre = c .before .before .before .before .before .before .before .before .before .before .pre in omega (arith, l .puts .size, pre .0 .1 .1)
 
-counts-as-requires : tie.Need-counts-as-requires Inv-loop μ-loop
-counts-as-requires c κs = keeps-inside (c .before .before .read-part .ensures)
+is-name-requires : tie.Need-is-name-requires Inv-loop μ-loop
+is-name-requires c κs = keeps-inside (c .before .before .read-part .ensures)
 
 same-length : tie.Need-same-length Inv-loop μ-loop
 same-length c = c .before .before .before .before .before .before .before .before .loop .inv .puts .size
 
 returns : tie.Need-returns Inv-loop μ-loop
 unfolding bytes
-returns c = let x = c .before .before .before .before .before .before .before .before .before .before .before .before .before .args in let l = c .before .before .before .before .before .before .before .before .loop .inv in let pre = c .before .before .before .before .before .before .before .before .before .before .before .before .before .pre in join-named (x .work .now) (x .a) (x .e - x .a) (x .at) _ _ _ l (omega (arith, pre .0 .0, pre .0 .1 .0)) (omega (arith, pre .0 .0, pre .0 .1 .1)) _ (c .before .before .before .before .read-part .ensures) (sym (c .before .counts-as .ensures) ∙ c .if1 .taken)
+returns c = let x = c .before .before .before .before .before .before .before .before .before .before .before .before .before .args in let l = c .before .before .before .before .before .before .before .before .loop .inv in let pre = c .before .before .before .before .before .before .before .before .before .before .before .before .before .pre in join-named (x .work .now) (x .a) (x .e - x .a) (x .at) _ _ _ l (omega (arith, pre .0 .0, pre .0 .1 .0)) (omega (arith, pre .0 .0, pre .0 .1 .1)) _ (c .before .before .before .before .read-part .ensures) (sym (c .before .is-name .ensures) ∙ c .if1 .taken)
 
 add-put-more : tie.Need-add-put-more Inv-loop μ-loop
 unfolding bytes
@@ -87,7 +87,7 @@ loop-less c = let x = c .before .before .before .before .before .before .before 
 
 loop-again : tie.Need-loop-again Inv-loop μ-loop
 unfolding bytes
-loop-again c = let x = c .before .before .before .before .before .before .before .before .before .before .before .before .before .before .before .before .before .before .args in let l = c .before .before .before .before .before .before .before .before .before .before .before .before .before .loop .inv in let pre = c .before .before .before .before .before .before .before .before .before .before .before .before .before .before .before .before .before .before .pre in join-turn (x .work .now) (x .a) (x .e - x .a) (x .at) _ _ _ l (omega (arith, pre .0 .0, pre .0 .1 .0)) (omega (arith, pre .0 .0, pre .0 .1 .1)) _ (c .before .before .before .before .before .before .before .before .before .read-part .ensures) _ _ (sym (c .before .before .before .before .before .before .counts-as .ensures) ∙ c .before .before .before .before .before .if1 .left) (c .before .before .put-more .ensures)
+loop-again c = let x = c .before .before .before .before .before .before .before .before .before .before .before .before .before .before .before .before .before .before .args in let l = c .before .before .before .before .before .before .before .before .before .before .before .before .before .loop .inv in let pre = c .before .before .before .before .before .before .before .before .before .before .before .before .before .before .before .before .before .before .pre in join-turn (x .work .now) (x .a) (x .e - x .a) (x .at) _ _ _ l (omega (arith, pre .0 .0, pre .0 .1 .0)) (omega (arith, pre .0 .0, pre .0 .1 .1)) _ (c .before .before .before .before .before .before .before .before .before .read-part .ensures) _ _ (sym (c .before .before .before .before .before .before .is-name .ensures) ∙ c .before .before .before .before .before .if1 .left) (c .before .before .put-more .ensures)
 
 same-length-2 : tie.Need-same-length-2 Inv-loop μ-loop
 same-length-2 c = c .before .loop .inv .puts .size
@@ -111,10 +111,10 @@ join-texts-spec =
     part-read-part-start
     part-read-part-end
     read-part-requires
-    sub-counts-as
-    part-counts-as-start
-    part-counts-as-end
-    counts-as-requires
+    sub-is-name
+    part-is-name-start
+    part-is-name-end
+    is-name-requires
     same-length
     returns
     add-put-more
