@@ -15,12 +15,14 @@ use Rattle.text.specs.Cells.{Cell, cell, cells, part, bytes, sign}
 use Rattle.text.specs.Writes.{Holds, Appends}
 use Rattle.text.proofs.Writing.{holds-fits, appends-then, part-snoc}
 use Rattle.text.proofs.Clearing.{cells-bytes}
-use Rattle.mark_tags.specs.Marks.{Kind, bold, italic, underline, strike, Items, end, text, gone, mark, Span, Written, shift, plain, _▹_, content, Next, next, nextByte, State, start, Step, textStep, pieceText, touching, marked, markStep, wrap, wrapText, opening, closing, delimiter, braced, firstOr, lastOr, absent, backslash, escapeLast, write, spanNumbers}
+use Rattle.mark_tags.specs.Marks.{Kind, bold, italic, underline, strike, Items, end, text, gone, mark, Slots, Span, Written, shift, plain, _▹_, content, Next, next, nextByte, State, start, Step, textStep, pieceText, touching, marked, markStep, wrap, wrapText, opening, closing, delimiter, braced, firstOr, lastOr, absent, backslash, escapeLast, write, spanNumbers}
 use Rattle.mark_tags.specs.Flat.{within, beyond, slotAt, kindNumbered, NextIs, nextNumber, behindBrace}
-use Rattle.mark_pieces.specs.Spans.{raised, marksIn, Writes, Finished, SlotWritten, markAt, MarkWritten}
+use Rattle.mark_pieces.specs.Spans.{raised, marksIn, Writes, Finished, SlotWritten, markAt, MarkReady, MarkWritten}
 use Rattle.mark_pieces.proofs.Pieces.{cells-long}
 use Rattle.mark_writing.proofs.Drawing.{appends-end, shift-shift}
+use Rattle.mark_writing.specs.Bodied.{Bodied}
 use Rattle.mark_writing.proofs.SlotWriting.{one-more}
+use Rattle.mark_writing.proofs.SlotAsking.{next-is, last-small}
 
 -- ---- how many spans
 
@@ -228,129 +230,180 @@ appends-longer {v} {v'} {t} {at} {at'} t' l h n a = record {
 
 -- ---- a mark with its body
 
-module _ (src ns : List ℕ) (k i before : ℕ) (v v₁ : List Cell) (out₂ org₂ : List ℕ) (at a₁ e d c c₂ item : ℕ) (ss ss₂ : List ℕ)
-    (dl : d ≡ delimiter (kindNumbered (getD ns (2 * length src + 2 + i) 0 % 4)))
-    (l₁ : length v₁ ≡ length v) (l₂ : length (cells out₂ org₂) ≡ length v) (wide : length out₂ ≤ length org₂)
-    (a : Appends v at v₁ a₁ (sign d ∷ [])) (b : SlotWritten src ns k (i + 1) v₁ a₁ ss (c + 2) (cells out₂ org₂) e ss₂ c₂ item) where
+delimiter-small : (k : Kind) (d : ℕ) → d ≡ delimiter k → d < 256
+delimiter-small bold d e = omega arith
+delimiter-small italic d e = omega arith
+delimiter-small underline d e = omega arith
+delimiter-small strike d e = omega arith
+
+pub cells-kept : (bs ns bs' ns' : List ℕ) → length bs' ≡ length bs → length ns' ≡ length ns → length bs ≤ length ns → length (cells bs' ns') ≡ length (cells bs ns)
+cells-kept bs ns bs' ns' e f h = let a = cells-long bs ns h in let b = cells-long bs' ns' (omega arith) in omega arith
+
+abbrev pub bodied : {i at₁ : ℕ} {out org out₂ org₂ ss : List ℕ} {src ns ss₂ : List ℕ} {k mask before d p end c listed item : ℕ} (out₁ org₁ : List ℕ) → MarkReady src ns k i mask before out org c
+    → d ≡ delimiter (kindNumbered (getD ns (2 * length src + 2 + i) 0 % 4)) → length out₁ ≡ length out → length org₁ ≡ length org → length out₂ ≡ length out₁ → length org₂ ≡ length org₁ → length ss₂ ≡ length ss
+    → Appends (cells out org) p (cells out₁ org₁) at₁ (sign d ∷ []) → SlotWritten src ns k (i + 1) (cells out₁ org₁) at₁ ss (c + 2) (cells out₂ org₂) end ss₂ listed item
+    → Bodied src ns k mask before d p out₂ org₂ end ss₂ c listed item
+bodied {i} {at₁} {out} {org} {out₂} {org₂} {ss} out₁ org₁ r dl lo₁ lg₁ lo₂ lg₂ ls a b = record {
+  i = i;
+  v = cells out org;
+  v₁ = cells out₁ org₁;
+  at₁ = at₁;
+  spans = ss;
+  ready = record {
+    slot = record { table = r .slot .table; up-to = r .slot .up-to; small = r .slot .small; fresh = r .slot .fresh; short = omega arith; wide = omega arith; few = r .slot .few };
+    inside = r .inside;
+    mark = r .mark;
+    some = r .some;
+    small = r .small;
+  };
+  delimits = dl;
+  same₁ = cells-kept out org out₁ org₁ lo₁ lg₁ (r .slot .wide);
+  same = cells-kept out org out₂ org₂ (lo₂ ∙ lo₁) (lg₂ ∙ lg₁) (r .slot .wide);
+  same-spans = ls;
+  opened = a;
+  body = b;
+}
+
+module _ {src ns : List ℕ} {k mask before d at : ℕ} {out₂ org₂ : List ℕ} {e : ℕ} {ss₂ : List ℕ} {c c₂ item : ℕ} (m : Bodied src ns k mask before d at out₂ org₂ e ss₂ c c₂ item) where
   abbrev body : Written
-  body = write (within (slotAt src ns k (i + 1))) start
+  body = write (within (slotAt src ns k (m .i + 1))) start
 
   abbrev form : Bool
-  form = braced (delimiter (kindNumbered (getD ns (2 * length src + 2 + i) 0 % 4))) (firstOr absent (body .cells)) (lastOr absent (body .cells)) before (nextByte (next (within (beyond (slotAt src ns k (i + 1))))))
+  form = braced (delimiter (kindNumbered (getD ns (2 * length src + 2 + m .i) 0 % 4))) (firstOr absent (body .cells)) (lastOr absent (body .cells)) before (nextByte (next (within (beyond (slotAt src ns k (m .i + 1))))))
 
-  both : Appends v at (cells out₂ org₂) e (sign d ∷ body .cells)
-  both = appends-then a (b .wrote .text)
+  both : Appends (m .v) at (cells out₂ org₂) e (sign d ∷ body .cells)
+  both = appends-then (m .opened) (m .body .wrote .text)
 
-  counted : c₂ ≡ c + 2 * length (markAt src ns k i before .wrote .spans)
-  counted = let n = b .wrote .count in omega (arith, one-more (kindNumbered (getD ns (2 * length src + 2 + i) 0 % 4)) body (next (within (beyond (slotAt src ns k (i + 1))))) (record { before = before; guarded = false }))
+  counted : c₂ ≡ c + 2 * length (markAt src ns k (m .i) before .wrote .spans)
+  counted = let n = m .body .wrote .count in omega (arith, one-more (kindNumbered (getD ns (2 * length src + 2 + m .i) 0 % 4)) body (next (within (beyond (slotAt src ns k (m .i + 1))))) (record { before = before; guarded = false }))
 
-  wrapped : markAt src ns k i before .wrote .cells ≡ wrapText d form (body .cells)
+  wrapped : markAt src ns k (m .i) before .wrote .cells ≡ wrapText d form (body .cells)
   unfolding markStep wrap
-  wrapped = rw dl
+  wrapped = rw (m .delimits)
+
+  long : length (cells out₂ org₂) ≡ length out₂
+  long = cells-long out₂ org₂ (m .ready .slot .wide)
+
+  some : 1 ≤ length (body .cells)
+  some = content-written (within (slotAt src ns k (m .i + 1))) start (m .ready .some)
 
   -- it does not fit
-  pub mark-full : length (cells out₂ org₂) < e → MarkWritten src ns k i before v at ss c (cells out₂ org₂) e ss₂ c₂ item 256 false
+  pub mark-full : length out₂ < e → MarkWritten src ns k (m .i) before (m .v) at (m .spans) c (cells out₂ org₂) e ss₂ c₂ item 256 false
   mark-full h =
+      let l = long in
       let n = wrap-long d form (body .cells) in
       let o = opening-long form d in
-      let f = b .forward in
+      let f = m .body .forward in
       record {
-        wrote = record { text = rw wrapped (appends-longer (wrapText d form (body .cells)) l₂ h (omega arith) both); count = counted; spans = λ q r. absurd (omega arith) };
+        wrote = record { text = rw wrapped (appends-longer (wrapText d form (body .cells)) (m .same) (omega arith) (omega arith) both); count = counted; spans = λ q r. absurd (omega arith) };
         state = λ q. absurd (omega arith);
         small = omega arith;
-        behind = b .behind;
-        up-to = b .up-to;
+        behind = m .body .behind;
+        up-to = m .body .up-to;
         forward = omega arith;
       }
 
-  module _ (fit : e ≤ length (cells out₂ org₂)) (some : 1 ≤ length (body .cells)) where
-    started : a₁ ≡ at + 1
-    started = let g = b .wrote .text .grows in appends-end a (omega arith) l₁ .0
+  module _ (fit : e ≤ length out₂) where
+    fits : e ≤ length (cells out₂ org₂)
+    fits = let l = long in omega arith
+
+    started : m .at₁ ≡ at + 1
+    started = let g = m .body .wrote .text .grows in let f = fits in appends-end (m .opened) (omega arith) (m .same₁) .0
 
     ended : e ≡ at + suc (length (body .cells))
-    ended = appends-end both fit l₂ .0
+    ended = appends-end both fits (m .same) .0
 
-    pub mark-more : at + 1 < e
-    mark-more = let z = ended in omega arith
+    mark-more : at + 1 < e
+    mark-more = let z = ended in let o = some in omega arith
 
-    text-there : take e out₂ ≡ bytes (take at v) ++ (d ∷ bytes (body .cells))
+    text-there : take e out₂ ≡ bytes (take at (m .v)) ++ (d ∷ bytes (body .cells))
     text-there =
-        let s = cells-long out₂ org₂ wide in
-        sym (cells-bytes e out₂ org₂ (omega arith) (omega arith)) ∙ ap bytes (appends-end both fit l₂ .1) ∙ bytes-append (take at v) (sign d ∷ body .cells)
+        let s = long in
+        sym (cells-bytes e out₂ org₂ (omega arith) (omega arith)) ∙ ap bytes (appends-end both fits (m .same) .1) ∙ bytes-append (take at (m .v)) (sign d ∷ body .cells)
 
-    front-long : length (bytes (take at v)) ≡ at
-    front-long = let z = ended in length-map (take at v) (λ (c : Cell). c .byte) ∙ length-take-le at v (omega arith)
+    front-long : length (bytes (take at (m .v))) ≡ at
+    front-long = let z = ended in let f = fits in length-map (take at (m .v)) (λ (c : Cell). c .byte) ∙ length-take-le at (m .v) (omega arith)
 
-    pub first-there : getD out₂ (at + 1) 0 ≡ firstOr absent (body .cells)
+    first-there : getD out₂ (at + 1) 0 ≡ firstOr absent (body .cells)
     first-there =
         let z = ended in
-        sym (getD-take e out₂ (at + 1) 0 (omega arith)) ∙ ap₂ (λ (l : List ℕ) (n : ℕ). getD l (n + 1) 0) text-there (sym front-long) ∙ edge-first (bytes (take at v)) d (body .cells) some
+        let o = some in
+        sym (getD-take e out₂ (at + 1) 0 (omega arith)) ∙ ap₂ (λ (l : List ℕ) (n : ℕ). getD l (n + 1) 0) text-there (sym front-long) ∙ edge-first (bytes (take at (m .v))) d (body .cells) some
 
-    pub last-there : getD out₂ (e - 1) 0 ≡ lastOr absent (body .cells)
+    last-there : getD out₂ (e - 1) 0 ≡ lastOr absent (body .cells)
     last-there =
         let z = ended in
         let y : e - 1 ≡ at + length (body .cells) = omega arith in
-        sym (getD-take e out₂ (e - 1) 0 (omega arith)) ∙ ap₂ (λ (l : List ℕ) (n : ℕ). getD l n 0) text-there y ∙ ap (λ (n : ℕ). getD (bytes (take at v) ++ (d ∷ bytes (body .cells))) (n + length (body .cells)) 0) (sym front-long) ∙ edge-last (bytes (take at v)) d (body .cells) some
+        sym (getD-take e out₂ (e - 1) 0 (omega arith)) ∙ ap₂ (λ (l : List ℕ) (n : ℕ). getD l n 0) text-there y ∙ ap (λ (n : ℕ). getD (bytes (take at (m .v)) ++ (d ∷ bytes (body .cells))) (n + length (body .cells)) 0) (sym front-long) ∙ edge-last (bytes (take at (m .v))) d (body .cells) some
 
-    module _ (room : c₂ ≤ length ss₂) (ls : length ss₂ ≡ length ss) where
-      room-before : c + 2 ≤ length ss
-      room-before = let n = b .wrote .count in omega arith
+    module _ (room : c₂ ≤ length ss₂) where
+      room-before : c + 2 ≤ length (m .spans)
+      room-before = let n = m .body .wrote .count in omega arith
 
-      spans-there : take c₂ ss₂ ≡ take (c + 2) ss ++ spanNumbers (map (shift (at + 1)) (body .spans))
-      spans-there = b .wrote .spans fit room ∙ ap (λ (n : ℕ). take (c + 2) ss ++ spanNumbers (map (shift n) (body .spans))) started
+      spans-there : take c₂ ss₂ ≡ take (c + 2) (m .spans) ++ spanNumbers (map (shift (at + 1)) (body .spans))
+      spans-there = m .body .wrote .spans fits room ∙ ap (λ (n : ℕ). take (c + 2) (m .spans) ++ spanNumbers (map (shift n) (body .spans))) started
 
       spans-inside : drop (c + 2) (take c₂ ss₂) ≡ spanNumbers (map (shift (at + 1)) (body .spans))
-      spans-inside = ap (drop (c + 2)) spans-there ∙ drop-at (take (c + 2) ss) (spanNumbers (map (shift (at + 1)) (body .spans))) (c + 2) (length-take-le (c + 2) ss room-before)
+      spans-inside = ap (drop (c + 2)) spans-there ∙ drop-at (take (c + 2) (m .spans)) (spanNumbers (map (shift (at + 1)) (body .spans))) (c + 2) (length-take-le (c + 2) (m .spans) room-before)
 
-      pub spans-small : (j : ℕ) → c + 2 ≤ j → j < c₂ → getD ss₂ j 0 ≤ e
+      spans-small : (j : ℕ) → c + 2 ≤ j → j < c₂ → getD ss₂ j 0 ≤ e
       spans-small j p q =
           let z = ended in
           let y : c + 2 + (j - (c + 2)) ≡ j = omega arith in
-          let w = within-number (at + 1) (length (body .cells)) (body .spans) (j - (c + 2)) (spans-within (within (slotAt src ns k (i + 1))) start) in
-          let n = length-take-le (c + 2) ss room-before in
+          let w = within-number (at + 1) (length (body .cells)) (body .spans) (j - (c + 2)) (spans-within (within (slotAt src ns k (m .i + 1))) start) in
+          let n = length-take-le (c + 2) (m .spans) room-before in
           let u : getD ss₂ j 0 ≡ getD (spanNumbers (map (shift (at + 1)) (body .spans))) (j - (c + 2)) 0 =
           sym (getD-take c₂ ss₂ j 0 q) ∙ ap₂ (λ (l : List ℕ) (x : ℕ). getD l x 0) spans-there (sym y)
-          ∙ ap (λ (x : ℕ). getD (take (c + 2) ss ++ spanNumbers (map (shift (at + 1)) (body .spans))) (x + (j - (c + 2))) 0) (sym n)
-          ∙ getD-append-add (take (c + 2) ss) (spanNumbers (map (shift (at + 1)) (body .spans))) (j - (c + 2)) 0 in
+          ∙ ap (λ (x : ℕ). getD (take (c + 2) (m .spans) ++ spanNumbers (map (shift (at + 1)) (body .spans))) (x + (j - (c + 2))) 0) (sym n)
+          ∙ getD-append-add (take (c + 2) (m .spans)) (spanNumbers (map (shift (at + 1)) (body .spans))) (j - (c + 2)) 0 in
           omega arith
 
-      low : take c ss₂ ≡ take c ss
+      low : take c ss₂ ≡ take c (m .spans)
       low =
-          let n = b .wrote .count in
-          let m = length-take-le (c + 2) ss room-before in
-          sym (take-take c c₂ ss₂ (omega arith)) ∙ ap (take c) spans-there ∙ take-append-le c (take (c + 2) ss) (spanNumbers (map (shift (at + 1)) (body .spans))) (omega arith) ∙ take-take c (c + 2) ss (omega arith)
+          let n = m .body .wrote .count in
+          let l = length-take-le (c + 2) (m .spans) room-before in
+          sym (take-take c c₂ ss₂ (omega arith)) ∙ ap (take c) spans-there ∙ take-append-le c (take (c + 2) (m .spans)) (spanNumbers (map (shift (at + 1)) (body .spans))) (omega arith) ∙ take-take c (c + 2) (m .spans) (omega arith)
+
+    -- what finishing it is asked
+    pub mark-asks : (nx : ℕ) → nx ≤ 256
+        → (((at + 1 < e) × (e ≤ length out₂)) × ((length out₂ ≤ length org₂) × (length out₂ ≤ 16777216))) × ((c + 2 ≤ c₂) × (((before ≤ 256) × (nx ≤ 256)) × (c₂ ≤ length ss₂ → (j : ℕ) → c + 2 ≤ j → j < c₂ → getD ss₂ j 0 ≤ 16777216)))
+    mark-asks nx h =
+        (((mark-more, fit), (m .ready .slot .wide, m .ready .slot .short)), (omega arith, ((m .ready .small, h), λ r j p q. (let w = spans-small r j p q in omega arith))))
 
     listing : (br : Bool) (to : ℕ) → br ≡ form → to ≡ at + length (wrapText d br (body .cells))
-        → at ∷ to ∷ spanNumbers (map (shift (at + 1 + cond br 1 0)) (body .spans)) ≡ spanNumbers (map (shift at) (markAt src ns k i before .wrote .spans))
+        → at ∷ to ∷ spanNumbers (map (shift (at + 1 + cond br 1 0)) (body .spans)) ≡ spanNumbers (map (shift at) (markAt src ns k (m .i) before .wrote .spans))
     unfolding markStep wrap spanNumbers
     listing br to f t =
         let o : at + 1 + cond br 1 0 ≡ at + length (opening br d) = let y = opening-long br d in omega arith in
-        rw (t, o, add-zero at, ← f, ← dl, shift-shift at (length (opening br d)) (body .spans))
+        rw (t, o, add-zero at, ← f, ← (m .delimits), shift-shift at (length (opening br d)) (body .spans))
 
-    last-is : (br : Bool) → br ≡ form → cond br 125 d ≡ markAt src ns k i before .state .before
+    last-is : (br : Bool) → br ≡ form → cond br 125 d ≡ markAt src ns k (m .i) before .state .before
     unfolding markStep wrap
-    last-is br f = sym (wrap-last d br (body .cells)) ∙ rw (f, dl)
+    last-is br f = sym (wrap-last d br (body .cells)) ∙ rw (f, (m .delimits))
 
-    guard-is : (not form && is "{" before) ≡ markAt src ns k i before .state .guarded
+    guard-is : (not form && is "{" before) ≡ markAt src ns k (m .i) before .state .guarded
     unfolding markStep
     guard-is = refl
 
-    pub mark-written : (out₃ org₃ : List ℕ) (to : ℕ) (ss₃ : List ℕ) (br : Bool) (nx before' : ℕ) (guarded' : Bool) → length (cells out₃ org₃) ≡ length v → length out₂ ≡ length v → length ss₂ ≡ length ss → length ss₃ ≡ length ss₂
-        → nx ≡ nextByte (next (within (beyond (slotAt src ns k (i + 1)))))
-        → Finished out₂ org₂ at e ss₂ c c₂ d before nx out₃ org₃ to ss₃ br → before' ≡ cond br 125 d → guarded' ≡ (not br && is "{" before) → before' ≤ 256
-        → MarkWritten src ns k i before v at ss c (cells out₃ org₃) to ss₃ c₂ item before' guarded'
-    mark-written out₃ org₃ to ss₃ br nx before' guarded' l₃ lo ls ls₃ en fin eb eg sb =
-        let f = b .forward in
+    pub mark-written : (out₃ org₃ : List ℕ) (to : ℕ) (ss₃ : List ℕ) (br : Bool) (r nx before' : ℕ) (guarded' : Bool) → length out₃ ≡ length out₂ → length org₃ ≡ length org₂ → length ss₃ ≡ length ss₂
+        → NextIs (next (within (slotAt src ns k item))) r → nx ≡ cond (eqb r 257) 123 r
+        → Finished out₂ org₂ at e ss₂ c c₂ d before nx out₃ org₃ to ss₃ br → before' ≡ cond br 125 d → guarded' ≡ (not br && is "{" before)
+        → MarkWritten src ns k (m .i) before (m .v) at (m .spans) c (cells out₃ org₃) to ss₃ c₂ item before' guarded'
+    mark-written out₃ org₃ to ss₃ br r nx before' guarded' lo₃ lg₃ ls₃ ni ne fin eb eg =
+        let l = long in
+        let l₃ = cells-kept out₂ org₂ out₃ org₃ lo₃ lg₃ (m .ready .slot .wide) ∙ m .same in
+        let en : nx ≡ nextByte (next (within (beyond (slotAt src ns k (m .i + 1))))) = next-is _ r nx (subst (λ (o : Slots). NextIs (next (within o)) r) (m .body .behind) ni) ne in
+        let f = m .body .forward in
         let z = ended in
-        let isform : br ≡ form = fin .form ∙ rw (first-there, last-there, en, dl) in
-        let text : Appends v at (cells out₃ org₃) to (wrapText d br (body .cells)) = record {
+        let isform : br ≡ form = fin .form ∙ rw (first-there, last-there, en, (m .delimits)) in
+        let text : Appends (m .v) at (cells out₃ org₃) to (wrapText d br (body .cells)) = record {
           step = λ s h.
-              let n : at ≡ length s = h .end (holds-fits v at s h (omega arith)) in
+              let n : at ≡ length s = h .end (holds-fits (m .v) at s h (omega arith)) in
               subst (λ (t : List Cell). Holds (cells out₃ org₃) to (s ++ t)) (wrap-by br d (body .cells)) (fin .step (sign d) s (body .cells) (sym n) (both .step s h));
           keeps = fin .keeps ∙ both .keeps;
           grows = let g = fin .grows in omega arith;
         } in
-        let same : markAt src ns k i before .wrote .cells ≡ wrapText d br (body .cells) = wrapped ∙ ap (λ (x : Bool). wrapText d x (body .cells)) (sym isform) in
+        let same : markAt src ns k (m .i) before .wrote .cells ≡ wrapText d br (body .cells) = wrapped ∙ ap (λ (x : Bool). wrapText d x (body .cells)) (sym isform) in
         record {
           wrote = record {
             text = rw same text;
@@ -358,63 +411,17 @@ module _ (src ns : List ℕ) (k i before : ℕ) (v v₁ : List Cell) (out₂ org
             spans = λ h r.
                 let ends = appends-end text h l₃ .0 in
                 let room : c₂ ≤ length ss₂ = omega arith in
-                fin .spans (omega arith) room ∙ rw (low room ls, spans-inside room ls, raised-shift (cond br 1 0) (at + 1) (body .spans))
-                (ap (λ (l : List ℕ). take c ss ++ l) (listing br to isform ends));
+                fin .spans (omega arith) room ∙ rw (low room, spans-inside room, raised-shift (cond br 1 0) (at + 1) (body .spans))
+                (ap (λ (l : List ℕ). take c (m .spans) ++ l) (listing br to isform ends));
           };
           state = λ h. (eb ∙ last-is br isform, eg ∙ ap (λ (x : Bool). not x && is "{" before) isform ∙ guard-is);
-          small = sb;
-          behind = b .behind;
-          up-to = b .up-to;
+          small = last-small br d before' (delimiter-small (kindNumbered (getD ns (2 * length src + 2 + m .i) 0 % 4)) d (m .delimits)) eb;
+          behind = m .body .behind;
+          up-to = m .body .up-to;
           forward = omega arith;
         }
-
--- ---- the same over pairs of slices
-
-pub cells-kept : (bs ns bs' ns' : List ℕ) → length bs' ≡ length bs → length ns' ≡ length ns → length bs ≤ length ns → length (cells bs' ns') ≡ length (cells bs ns)
-cells-kept bs ns bs' ns' e f h = let a = cells-long bs ns h in let b = cells-long bs' ns' (omega arith) in omega arith
-
-module _ (src ns : List ℕ) (k i before : ℕ) (out org out₁ org₁ out₂ org₂ : List ℕ) (at a₁ e d c c₂ item : ℕ) (ss ss₂ : List ℕ)
-    (dl : d ≡ delimiter (kindNumbered (getD ns (2 * length src + 2 + i) 0 % 4)))
-    (lo₁ : length out₁ ≡ length out) (lg₁ : length org₁ ≡ length org) (lo₂ : length out₂ ≡ length out) (lg₂ : length org₂ ≡ length org) (wide : length out ≤ length org)
-    (a : Appends (cells out org) at (cells out₁ org₁) a₁ (sign d ∷ [])) (b : SlotWritten src ns k (i + 1) (cells out₁ org₁) a₁ ss (c + 2) (cells out₂ org₂) e ss₂ c₂ item) where
-  pub mark-full-by : length out₂ < e → MarkWritten src ns k i before (cells out org) at ss c (cells out₂ org₂) e ss₂ c₂ item 256 false
-  mark-full-by h =
-      let l = cells-long out₂ org₂ (omega arith) in
-      mark-full src ns k i before (cells out org) (cells out₁ org₁) out₂ org₂ at a₁ e d c c₂ item ss ss₂ dl (cells-kept out org out₁ org₁ lo₁ lg₁ wide) (cells-kept out org out₂ org₂ lo₂ lg₂ wide) (omega arith) a b (omega arith)
-
-  module _ (fit : e ≤ length out₂) (some : content (within (slotAt src ns k (i + 1))) ≡ true) (ls : length ss₂ ≡ length ss) where
-    pub mark-asks : (at + 1 < e) × (c + 2 ≤ c₂) × (c₂ ≤ length ss₂ → (j : ℕ) → c + 2 ≤ j → j < c₂ → getD ss₂ j 0 ≤ e)
-    mark-asks =
-        let l = cells-long out₂ org₂ (omega arith) in
-        let l₁ = cells-kept out org out₁ org₁ lo₁ lg₁ wide in
-        let l₂ = cells-kept out org out₂ org₂ lo₂ lg₂ wide in
-        let n = b .wrote .count in
-        let s = content-written (within (slotAt src ns k (i + 1))) start some in (
-          mark-more src ns k i before (cells out org) (cells out₁ org₁) out₂ org₂ at a₁ e d c c₂ item ss ss₂ dl l₁ l₂ (omega arith) a b (omega arith) s,
-          omega arith,
-          λ r. spans-small src ns k i before (cells out org) (cells out₁ org₁) out₂ org₂ at a₁ e d c c₂ item ss ss₂ dl l₁ l₂ (omega arith) a b (omega arith) s r ls,
-        )
-
-    pub mark-written-by : (out₃ org₃ : List ℕ) (to : ℕ) (ss₃ : List ℕ) (br : Bool) (nx before' : ℕ) (guarded' : Bool) → length out₃ ≡ length out → length org₃ ≡ length org → length ss₃ ≡ length ss₂
-        → nx ≡ nextByte (next (within (beyond (slotAt src ns k (i + 1)))))
-        → Finished out₂ org₂ at e ss₂ c c₂ d before nx out₃ org₃ to ss₃ br → before' ≡ cond br 125 d → guarded' ≡ (not br && is "{" before) → before' ≤ 256
-        → MarkWritten src ns k i before (cells out org) at ss c (cells out₃ org₃) to ss₃ c₂ item before' guarded'
-    mark-written-by out₃ org₃ to ss₃ br nx before' guarded' lo₃ lg₃ ls₃ en fin eb eg sb =
-        let l = cells-long out₂ org₂ (omega arith) in
-        let l₁ = cells-kept out org out₁ org₁ lo₁ lg₁ wide in
-        let l₂ = cells-kept out org out₂ org₂ lo₂ lg₂ wide in
-        let l₃ = cells-kept out org out₃ org₃ lo₃ lg₃ wide in
-        let s = content-written (within (slotAt src ns k (i + 1))) start some in
-        mark-written src ns k i before (cells out org) (cells out₁ org₁) out₂ org₂ at a₁ e d c c₂ item ss ss₂ dl l₁ l₂ (omega arith) a b (omega arith) s
-        out₃ org₃ to ss₃ br nx before' guarded' l₃ (omega arith) ls ls₃ en fin eb eg sb
 
 pub last-piece : (bs ns : List ℕ) (a e : ℕ) → a < e → e ≤ length bs → e ≤ length ns → getD bs (e - 1) 0 ≡ lastOr absent (part a e (cells bs ns))
 last-piece bs ns a e h k l =
     let z : e ≡ e - 1 + 1 = omega arith in
     sym (ap (λ (x : ℕ). lastOr absent (part a x (cells bs ns))) z ∙ ap (lastOr absent) (part-snoc bs ns a (e - 1) (omega arith) (omega arith) (omega arith)) ∙ last-behind absent (part a (e - 1) (cells bs ns)) (cell (getD bs (e - 1) 0) (getD ns (e - 1) 0)))
-
-pub delimiter-small : (k : Kind) (d : ℕ) → d ≡ delimiter k → d < 256
-delimiter-small bold d e = omega arith
-delimiter-small italic d e = omega arith
-delimiter-small underline d e = omega arith
-delimiter-small strike d e = omega arith

@@ -25,7 +25,7 @@ fresh-ready src ns k j mask t h s f =
     let b = fresh-depth (kindsOf mask) (within (slotAt src ns k j)) f in
     record { table = t; up-to = h; deep = omega arith }
 
-module _ (src ns : List ℕ) (k i mask before : ℕ) (out org : List ℕ) (c : ℕ) (m : MarkReady src ns k i mask before out org c) where
+module _ {src ns : List ℕ} {k i mask before : ℕ} {out org : List ℕ} {c : ℕ} (m : MarkReady src ns k i mask before out org c) where
   marking : within (slotAt src ns k i) ≡ mark (kindNumbered (getD ns (2 * length src + 2 + i) 0 % 4)) [] (within (slotAt src ns k (i + 1))) (within (beyond (slotAt src ns k (i + 1))))
   marking = ap within (at-mark src ns k i (m .inside) (m .mark)) ∙ around-within (kindNumbered (getD ns (2 * length src + 2 + i) 0 % 4)) (slotAt src ns k (i + 1))
 

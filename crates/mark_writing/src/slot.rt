@@ -9,14 +9,16 @@ use text::TextAt;
 use text::write::put_sign;
 ghost use mathlib.Core.Path.{_≡_};
 ghost use mathlib.Core.Bool.{true, cond};
+ghost use mathlib.Core.List.{List};
 ghost use lib.Dec.{eqb};
 ghost use Rattle.text.specs.Cells.{cells};
-ghost use Prim.Native.Nat.{_-_, _≤_, _<_};
+ghost use Prim.Native.Nat.{ℕ, _-_, _≤_, _<_};
 ghost use lib.ListN.{length, getD};
 ghost use Rattle.mark_tags.specs.Marks.{next, marked, touching};
 ghost use Rattle.mark_tags.specs.Flat.{within, slotAt, NextIs, Held, Ready, Answer};
 ghost use Rattle.mark_pieces.specs.Spans.{Slot, SlotWritten, MarkReady, MarkWritten};
 ghost use Rattle.mark_writing.specs.OneText.{OneText};
+ghost use Rattle.mark_writing.specs.Bodied.{Bodied};
 
 // Whether a slot holds text, at some depth: 0 if so, else 1 + the item behind the slot.
 pub fn content(text: &[u8], nums: &[u32], k: usize, from: usize, depth: usize) -> usize
@@ -153,40 +155,49 @@ fn is_one_text(text: &[u8], nums: &[u32], k: usize, from: usize) -> bool
         & (nums[2 * n + 2 + (from + 1)] == 2)
 }
 
-// Writes the mark that starts at item i, in a slot where the kinds of a mask are open.
-pub fn write_mark(
+// Writes a slot that is one text: at once, since nothing is guarded before it or written behind it.
+fn write_text(
     text: &[u8],
     nums: &[u32],
     k: usize,
-    i: usize,
-    mask: u32,
-    before: usize,
+    from: usize,
     out: &mut [u8],
     origins: &mut [u32],
     at: TextAt,
-    spans: &mut [u32],
     count: usize,
-) -> Drawn
-    requires { ⌜ MarkReady (now text) (now nums) k i mask before (now out) (now origins) count ⌝ }
-    ensures { λ r. ⌜ MarkWritten (now (text .entry)) (now (nums .entry)) k i before (cells (now (out .entry)) (now (origins .entry))) (at .0) (now (spans .entry)) count (cells (now (out .exit)) (now (origins .exit))) (r .to) (now (spans .exit)) (r .count) (r .item) (r .before) (r .guarded) ⌝ }
+) -> Went
+    requires { ⌜ Held (now text) (now nums) k × OneText (now text) (now nums) k from ⌝ }
+    ensures { λ r. ⌜ ((spans : List ℕ) → SlotWritten (now (text .entry)) (now (nums .entry)) k from (cells (now (out .entry)) (now (origins .entry))) (at .0) spans count (cells (now (out .exit)) (now (origins .exit))) (r .to) spans (r .count) (r .item)) ⌝ }
 {
     let n = text.len();
-    let kind = nums[2 * n + 2 + i] % 4;
-    let d = delimiter_of(kind);
-    let p = at.0;
-    let start = put_sign(out, origins, at, d);
-    let body = write_body(
-        text,
-        nums,
-        k,
-        i + 1,
-        mask | bit_of(kind),
-        out,
-        origins,
-        start,
-        spans,
-        count + 2,
-    );
+    let a = nums[n + from] as usize;
+    let e = nums[n + (from + 1)] as usize;
+    let behind = text::write::copy(text, nums, PostAt(a), PostAt(e), out, origins, at);
+    Went {
+        item: from + 2,
+        to: behind.0,
+        count,
+    }
+}
+
+// Ends a mark whose opening delimiter d stands at place p, with its body written behind it.
+fn end_mark(
+    text: &[u8],
+    nums: &[u32],
+    k: usize,
+    mask: u32,
+    before: usize,
+    d: u8,
+    p: usize,
+    out: &mut [u8],
+    origins: &mut [u32],
+    spans: &mut [u32],
+    count: usize,
+    body: Went,
+) -> Drawn
+    requires { ⌜ Bodied (now text) (now nums) k mask before d p (now out) (now origins) (body .to) (now spans) count (body .count) (body .item) ⌝ }
+    ensures { λ r. ⌜ ((b : Bodied (now (text .entry)) (now (nums .entry)) k mask before d p (now (out .entry)) (now (origins .entry)) (body .to) (now (spans .entry)) count (body .count) (body .item)) → MarkWritten (now (text .entry)) (now (nums .entry)) k (b .i) before (b .v) p (b .spans) count (cells (now (out .exit)) (now (origins .exit))) (r .to) (now (spans .exit)) (r .count) (r .item) (r .before) (r .guarded)) ⌝ }
+{
     let item = body.item;
     let end = body.to;
     let listed = body.count;
@@ -222,34 +233,71 @@ pub fn write_mark(
     }
 }
 
-// Writes a mark's slot: a single text at once, since nothing is guarded before it or written behind it; any other slot item by item.
-fn write_body(
+// Writes the mark that starts at item i, in a slot where the kinds of a mask are open.
+pub fn write_mark(
     text: &[u8],
     nums: &[u32],
     k: usize,
-    from: usize,
+    i: usize,
     mask: u32,
+    before: usize,
     out: &mut [u8],
     origins: &mut [u32],
     at: TextAt,
     spans: &mut [u32],
     count: usize,
-) -> Went
-    requires { ⌜ Slot (now text) (now nums) k from mask (now out) (now origins) count ⌝ }
-    ensures { λ r. ⌜ SlotWritten (now (text .entry)) (now (nums .entry)) k from (cells (now (out .entry)) (now (origins .entry))) (at .0) (now (spans .entry)) count (cells (now (out .exit)) (now (origins .exit))) (r .to) (now (spans .exit)) (r .count) (r .item) ⌝ }
+) -> Drawn
+    requires { ⌜ MarkReady (now text) (now nums) k i mask before (now out) (now origins) count ⌝ }
+    ensures { λ r. ⌜ MarkWritten (now (text .entry)) (now (nums .entry)) k i before (cells (now (out .entry)) (now (origins .entry))) (at .0) (now (spans .entry)) count (cells (now (out .exit)) (now (origins .exit))) (r .to) (now (spans .exit)) (r .count) (r .item) (r .before) (r .guarded) ⌝ }
 {
-    if is_one_text(text, nums, k, from) {
-        let n = text.len();
-        let a = nums[n + from] as usize;
-        let e = nums[n + (from + 1)] as usize;
-        let behind = text::write::copy(text, nums, PostAt(a), PostAt(e), out, origins, at);
-        return Went {
-            item: from + 2,
-            to: behind.0,
+    let n = text.len();
+    let kind = nums[2 * n + 2 + i] % 4;
+    let d = delimiter_of(kind);
+    let p = at.0;
+    let start = put_sign(out, origins, at, d);
+    if is_one_text(text, nums, k, i + 1) {
+        let body = write_text(text, nums, k, i + 1, out, origins, start, count + 2);
+        return end_mark(
+            text,
+            nums,
+            k,
+            mask,
+            before,
+            d,
+            p,
+            out,
+            origins,
+            spans,
             count,
-        };
+            body,
+        );
     }
-    write_slot(text, nums, k, from, mask, out, origins, at, spans, count)
+    let body = write_slot(
+        text,
+        nums,
+        k,
+        i + 1,
+        mask | bit_of(kind),
+        out,
+        origins,
+        start,
+        spans,
+        count + 2,
+    );
+    end_mark(
+        text,
+        nums,
+        k,
+        mask,
+        before,
+        d,
+        p,
+        out,
+        origins,
+        spans,
+        count,
+        body,
+    )
 }
 
 // Writes the slot that starts at item `from`, where the kinds of a mask are open.
