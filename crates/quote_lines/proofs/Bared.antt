@@ -1,6 +1,6 @@
 -- Laws of reading a text without its backslashes, and of comparing two texts without them and with them. Assumes nothing.
 use mathlib.Core.Path.{_≡_, refl, sym, ap, _∙_}
-use Prim.Native.Nat.{ℕ, suc, _+_, _≤_, _<_}
+use Prim.Native.Nat.{ℕ, _+_, _*_, _≤_, _<_}
 use native.Mathlib.Omega.{arith}
 use native.Mathlib.Numerals.{add-one}
 use mathlib.Core.Bool.{Bool, true, false, _&&_}
@@ -8,10 +8,10 @@ use mathlib.Core.List.{List, [], _∷_}
 use lib.ListN.{length, drop, getD, drop-of-length-le}
 use lib.Seq.{drop-cons}
 use lib.Dec.{eqb}
-use borrow.Author.Tests.{eq-eqb, ne-eqb}
+use borrow.Author.Tests.{eq-eqb, ne-eqb, eqb-true}
 use Rattle.text.specs.Ascii.{is}
 use Rattle.quote_lines.specs.Lines.{bare, same}
-use Rattle.quote_lines.specs.Tables.{PastBackslashes}
+use Rattle.quote_lines.specs.Tables.{weight, PastBackslashes}
 
 module _ (s : List ℕ) (i : ℕ) where
   bare-end : length s ≤ i → bare (drop i s) ≡ []
@@ -47,32 +47,34 @@ module _ (s : List ℕ) (at i : ℕ) (w : Past s at i) where
     pub past-on : getD s i 0 ≡ 92 → Past s at (i + 1)
     past-on e = record { inside = omega arith; later = omega (arith, w .later); same = sym (bare-over s i lt (eq-eqb (getD s i 0) 92 e)) ∙ w .same }
 
--- ---- counting the others
+-- ---- weighing the others
 
-pub record Counting (s : List ℕ) (n i : ℕ) : Type 0 where
-  pub count : n + length (bare (drop i s)) ≡ length (bare s)
-  pub few : n ≤ i
+pub record Weighing (s : List ℕ) (n i : ℕ) : Type 0 where
+  pub sum : n + weight (bare (drop i s)) ≡ weight (bare s)
+  pub few : n ≤ 511 * i
   pub inside : i ≤ length s
 
-pub counting : (s : List ℕ) → Counting s 0 0
-counting s = record { count = omega arith; few = omega arith; inside = omega arith }
+pub weighing : (s : List ℕ) → Weighing s 0 0
+weighing s = record { sum = omega arith; few = omega arith; inside = omega arith }
 
-module _ (s : List ℕ) (k i : ℕ) (w : Counting s k i) where
+module _ (s : List ℕ) (k i : ℕ) (w : Weighing s k i) where
   module _ (lt : i < length s) where
-    pub counting-on : (getD s i 0 ≡ 92 → ⊥) → Counting s (k + 1) (i + 1)
-    counting-on n =
-        let e : length (bare (drop i s)) ≡ suc (length (bare (drop (i + 1) s))) = ap length (bare-on s i lt (ne-eqb (getD s i 0) 92 n)) in
-        record { count = omega (arith, e, w .count); few = omega (arith, w .few); inside = omega arith }
+    pub weighing-on : getD s i 0 < 256 → (getD s i 0 ≡ 92 → ⊥) → Weighing s (k + (256 + getD s i 0)) (i + 1)
+    unfolding weight
+    weighing-on h n =
+        let e : weight (bare (drop i s)) ≡ 256 + getD s i 0 + weight (bare (drop (i + 1) s)) = ap weight (bare-on s i lt (ne-eqb (getD s i 0) 92 n)) in
+        record { sum = omega (arith, e, w .sum); few = omega (arith, w .few); inside = omega arith }
 
-    pub counting-over : getD s i 0 ≡ 92 → Counting s k (i + 1)
-    counting-over e =
-        let d : length (bare (drop i s)) ≡ length (bare (drop (i + 1) s)) = ap length (bare-over s i lt (eq-eqb (getD s i 0) 92 e)) in
-        record { count = omega (arith, d, w .count); few = omega (arith, w .few); inside = omega arith }
+    pub weighing-over : getD s i 0 ≡ 92 → Weighing s k (i + 1)
+    weighing-over e =
+        let d : weight (bare (drop i s)) ≡ weight (bare (drop (i + 1) s)) = ap weight (bare-over s i lt (eq-eqb (getD s i 0) 92 e)) in
+        record { sum = omega (arith, d, w .sum); few = omega (arith, w .few); inside = omega arith }
 
-  pub counting-end : length s ≤ i → (k ≡ length (bare s)) × (k ≤ length s)
-  counting-end le =
-      let e : length (bare (drop i s)) ≡ 0 = ap length (bare-end s i le) in
-      (omega (arith, e, w .count), omega (arith, w .few, w .inside))
+  pub weighing-end : length s ≤ i → (k ≡ weight (bare s)) × (k ≤ 511 * length s)
+  unfolding weight
+  weighing-end le =
+      let e : weight (bare (drop i s)) ≡ 0 = ap weight (bare-end s i le) in
+      (omega (arith, e, w .sum), omega (arith, w .few, w .inside))
 
 -- ---- comparing without backslashes
 
@@ -116,23 +118,23 @@ module _ (s a : List ℕ) (i j : ℕ) (w : Comparing s a i j) where
       stops-other = o .stops;
     }
 
--- texts of different lengths are not the same
-same-long : (x y : List ℕ) → same x y ≡ true → length x ≡ length y
+-- texts of different weights are not the same
+same-equal : (x y : List ℕ) → same x y ≡ true → x ≡ y
 unfolding same
-same-long [] [] e = refl
-same-long [] (b ∷ y) e = let z : true ≡ false = sym e in cc
-same-long (a ∷ x) [] e = let z : true ≡ false = sym e in cc
-same-long (a ∷ x) (b ∷ y) e = by (eqb a b) e (same-long x y)
+same-equal [] [] e = refl
+same-equal [] (b ∷ y) e = let z : true ≡ false = sym e in cc
+same-equal (a ∷ x) [] e = let z : true ≡ false = sym e in cc
+same-equal (a ∷ x) (b ∷ y) e = by (eqb a b) refl e (same-equal x y)
   where
-    by : (t : Bool) → (t && same x y) ≡ true → (same x y ≡ true → length x ≡ length y) → suc (length x) ≡ suc (length y)
-    by true f k = ap suc (k f)
-    by false f k = let z : true ≡ false = sym f in cc
+    by : (t : Bool) → eqb a b ≡ t → (t && same x y) ≡ true → (same x y ≡ true → x ≡ y) → a ∷ x ≡ b ∷ y
+    by true q f k = rw (eqb-true a b q, k f)
+    by false q f k = let z : true ≡ false = sym f in cc
 
-pub other-length : (x y : List ℕ) → (length x ≡ length y → ⊥) → false ≡ same x y
-other-length x y n = by (same x y) refl
+pub other-weight : (x y : List ℕ) → (weight x ≡ weight y → ⊥) → false ≡ same x y
+other-weight x y n = by (same x y) refl
   where
     by : (t : Bool) → same x y ≡ t → false ≡ same x y
-    by true e = absurd (n (same-long x y e))
+    by true e = absurd (n (ap weight (same-equal x y e)))
     by false e = sym e
 
 -- a text is the same as itself

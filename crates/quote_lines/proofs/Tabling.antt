@@ -17,7 +17,7 @@ use Rattle.quote_tags.proofs.Plain.{PlainRun}
 use Rattle.quote_tags.proofs.Places.{between-none, between-one}
 use Rattle.quote_tags.specs.Tags.{NextBracket, beginsAny, tagSize, upToBracket, openers, openerSize, attributionOf}
 use Rattle.quote_lines.specs.Lines.{Tag, bare, lineAfter, tags}
-use Rattle.quote_lines.specs.Tables.{wordsAt, TagAt, noTag, Table, Tabled, Untagged, NextOpener, linesBehind}
+use Rattle.quote_lines.specs.Tables.{weight, wordsAt, TagAt, noTag, Table, Tabled, Untagged, NextOpener, linesBehind}
 
 -- ---- lines
 
@@ -217,7 +217,7 @@ tag-kept s ns ns' q p line words e h w =
     let c = same-before q ns ns' e (p + 2) (omega arith) in
     let d = same-before q ns ns' e (p + 3) (omega arith) in
     record {
-      stands = record { inside = rw (b, c) (w .stands .inside); size = rw (b, c, d) (w .stands .size) };
+      stands = record { inside = rw (b, c) (w .stands .inside); weighs = rw (b, c, d) (w .stands .weighs) };
       line-is = a ∙ w .line-is;
       words-are = rw (b, c) (w .words-are);
     }
@@ -232,7 +232,7 @@ module _ (s ns : List ℕ) (p : ℕ) where
   words-cut = let q : from + getD ns (p + 2) 0 - from ≡ getD ns (p + 2) 0 = omega arith in rw q
 
 -- the four numbers of a tag, written at p
-module _ (s ns : List ℕ) (p line a size short : ℕ) (h : a + size ≤ length s) (g : p + 4 ≤ length ns) (e : short ≡ length (bare (take size (drop a s)))) where
+module _ (s ns : List ℕ) (p line a size short : ℕ) (h : a + size ≤ length s) (g : p + 4 ≤ length ns) (e : short ≡ weight (bare (take size (drop a s)))) where
   abbrev ns₁ : List ℕ
   ns₁ = set ns p line
 
@@ -260,7 +260,7 @@ module _ (s ns : List ℕ) (p line a size short : ℕ) (h : a + size ≤ length 
       getD-set-other ns₃ (p + 3) p short 0 (λ q. omega (arith, q)) ∙ getD-set-other ns₂ (p + 2) p size 0 (λ q. omega (arith, q))
       ∙ getD-set-other ns₁ (p + 1) p a 0 (λ q. omega (arith, q)) ∙ getD-set-same ns p line 0 (omega arith) in (
         record {
-          stands = record { inside = rw (g₁, g₂) h; size = rw (g₁, g₂, g₃) e };
+          stands = record { inside = rw (g₁, g₂) h; weighs = rw (g₁, g₂, g₃) e };
           line-is = g₀;
           words-are = rw (g₁, g₂);
         },

@@ -1,5 +1,6 @@
 -- The table of the quote tags of a text s in code, from place t of a slice of numbers on: for each tag four numbers, its line, the place and
--- the length of its attribution in s, and the length of that without backslashes.
+-- the length of its attribution in s, and the weight of that without backslashes.
+--   weight s              256 for each byte, and the bytes' sum: what has different weights is different
 --   wordsAt s ns p        the attribution of the tag whose numbers stand at p
 --   TagAt s ns p tag      the numbers at p are those of a tag
 --   Table s ns t count    the table holds the tags of s, so many
@@ -22,12 +23,16 @@ use Rattle.quote_tags.specs.Tags.{NextBracket, openerSize}
 use Rattle.quote_tags.specs.Masks.{visible}
 use Rattle.quote_lines.specs.Lines.{Tag, bare, lineAfter, tags}
 
+unfoldable pub weight : List ℕ → ℕ
+weight [] = 0
+weight (b ∷ s) = 256 + b + weight s
+
 unfoldable pub wordsAt : (s ns : List ℕ) → ℕ → List ℕ
 wordsAt s ns p = take (getD ns (p + 2) 0) (drop (getD ns (p + 1) 0) s)
 
 pub record WordsAt (s ns : List ℕ) (p : ℕ) : Type 0 where
   pub inside : getD ns (p + 1) 0 + getD ns (p + 2) 0 ≤ length s
-  pub size : getD ns (p + 3) 0 ≡ length (bare (wordsAt s ns p))
+  pub weighs : getD ns (p + 3) 0 ≡ weight (bare (wordsAt s ns p))
 
 pub record TagAt (s ns : List ℕ) (p line : ℕ) (attribution : List ℕ) : Type 0 where
   pub stands : WordsAt s ns p

@@ -15,7 +15,7 @@ ghost use lib.ListN.{length, take, drop};
 ghost use Rattle.text.specs.Ascii.{toBracket};
 ghost use Rattle.quote_tags.specs.Tags.{NextBracket, openerSize};
 ghost use Rattle.quote_lines.specs.Lines.{bare, tags, same, place, nextAfter, lineAt};
-ghost use Rattle.quote_lines.specs.Tables.{wordsAt, WordsAt, TagAt, Table, LinesRead, lineIn, Tabled, NextOpener, linesBehind, PastBackslashes};
+ghost use Rattle.quote_lines.specs.Tables.{weight as weightOf, wordsAt, WordsAt, TagAt, Table, LinesRead, lineIn, Tabled, NextOpener, linesBehind, PastBackslashes};
 
 // A place in the text, the place of the next `]`, the line there, and how many tags stand in the table.
 pub struct Reading {
@@ -46,15 +46,17 @@ fn past_backslashes(s: &[u8], at: usize) -> usize
     i
 }
 
-// How many bytes a text has without its backslashes.
-fn bare_length(s: &[u8]) -> usize
-    ensures { λ r. ⌜ (r ≡ length (bare (now (s .entry)))) × (r ≤ length (now (s .entry))) ⌝ }
+// The weight of a text without its backslashes. It tells most texts apart that are not the same, without a look at their bytes.
+fn bare_weight(s: &[u8]) -> usize
+    requires { ⌜ length (now s) ≤ 16777216 ⌝ }
+    ensures { λ r. ⌜ (r ≡ weightOf (bare (now (s .entry)))) × (r ≤ 511 * length (now (s .entry))) ⌝ }
 {
     let mut n: usize = 0;
     let mut i: usize = 0;
     while i < s.len() {
-        if s[i] != b'\\' {
-            n += 1;
+        let b = s[i];
+        if b != b'\\' {
+            n += 256 + b as usize;
         }
         i += 1;
     }
@@ -155,11 +157,11 @@ fn put_tag(s: &[u8], numbers: &mut [u32], p: usize, line: usize, a: usize, size:
     ensures { λ _. ⌜ TagAt (now (s .entry)) (now (numbers .exit)) p line (take size (drop a (now (s .entry)))) × (take p (now (numbers .exit)) ≡ take p (now (numbers .entry))) ⌝ }
 {
     let e = a + size;
-    let bare = bare_length(&s[a..e]);
+    let weight = bare_weight(&s[a..e]);
     numbers[p] = line as u32;
     numbers[p + 1] = a as u32;
     numbers[p + 2] = size as u32;
-    numbers[p + 3] = bare as u32;
+    numbers[p + 3] = weight as u32;
 }
 
 // A quote opener, its size and the place of the next `]`.
@@ -289,13 +291,13 @@ pub fn read_lines(text: &[u8], work: &mut [u8], numbers: &mut [u32]) -> Lines
     Lines { size, count }
 }
 
-// Whether the tag at p has an attribution that is the same without backslashes; `size` is how many bytes that has.
-fn has_attribution(s: &[u8], numbers: &[u32], p: usize, attribution: &[u8], size: usize) -> bool
-    requires { ⌜ ((p + 4 ≤ length (now numbers)) × (size ≡ length (bare (now attribution)))) × WordsAt (now s) (now numbers) p ⌝ }
+// Whether the tag at p has an attribution that is the same without backslashes; `weight` is what that weighs.
+fn has_attribution(s: &[u8], numbers: &[u32], p: usize, attribution: &[u8], weight: usize) -> bool
+    requires { ⌜ ((p + 4 ≤ length (now numbers)) × (weight ≡ weightOf (bare (now attribution)))) × WordsAt (now s) (now numbers) p ⌝ }
     ensures { λ r. ⌜ r ≡ same (bare (wordsAt (now (s .entry)) (now (numbers .entry)) p)) (bare (now (attribution .entry))) ⌝ }
 {
-    let bare = numbers[p + 3] as usize;
-    if bare != size {
+    let there = numbers[p + 3] as usize;
+    if there != weight {
         return false;
     }
     let a = numbers[p + 1] as usize;
@@ -336,7 +338,7 @@ pub fn line_of(
     next: usize,
     attribution: &[u8],
 ) -> Found
-    requires { ⌜ Table (now s) (now numbers) t count ⌝ }
+    requires { ⌜ Table (now s) (now numbers) t count × (length (now attribution) ≤ 16777216) ⌝ }
     ensures { λ r. ⌜ (r .line ≡ lineAt (tags 1 0 (now (s .entry))) (place (tags 1 0 (now (s .entry))) next (now (attribution .entry)))) × (r .next ≡ nextAfter (tags 1 0 (now (s .entry))) next (now (attribution .entry))) ⌝ }
 {
     // A quote that marks left as it was has just the attribution of tag `next`.
@@ -348,10 +350,10 @@ pub fn line_of(
             };
         }
     }
-    let size = bare_length(attribution);
+    let weight = bare_weight(attribution);
     let mut i = next;
     while i < count {
-        if has_attribution(s, numbers, t + 4 * i, attribution, size) {
+        if has_attribution(s, numbers, t + 4 * i, attribution, weight) {
             return Found {
                 line: numbers[t + 4 * i],
                 next: i + 1,

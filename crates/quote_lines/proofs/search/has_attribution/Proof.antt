@@ -4,7 +4,7 @@ use mathlib.Core.Path.{_≡_, refl, sym, ap, _∙_}
 use Prim.Native.Nat.{ℕ, suc, _+_, _-_, _≤_, _<_}
 use mathlib.Core.List.{List, [], _∷_, _++_}
 use lib.ListN.{length, getD}
-use Rattle.quote_lines.proofs.Bared.{other-length}
+use Rattle.quote_lines.proofs.Bared.{other-weight}
 use Rattle.quote_lines.proofs.Tabling.{words-cut}
 use Rattle.quote_lines.specs.Lines.{bare, same}
 use Rattle.quote_lines.proofs.search.has_attribution.Statement.{statement}
@@ -13,20 +13,20 @@ use Rattle.quote_lines.proofs.search.has_attribution.Reads as reads
 use Rattle.quote_lines.proofs.search.has_attribution.Lts as lts
 use Rattle.quote_lines.proofs.search.same_bare.Reads as same-bare-reads
 
-add-bare : tie.Need-add-bare
-add-bare c = search needs
+add-there : tie.Need-add-there
+add-there c = search needs
 
-mul-bare : tie.Need-mul-bare
-mul-bare c = search needs
+mul-there : tie.Need-mul-there
+mul-there c = search needs
 
-shared-slice-read-bare : tie.Need-shared-slice-read-bare
-shared-slice-read-bare c = search needs
+shared-slice-read-there : tie.Need-shared-slice-read-there
+shared-slice-read-there c = search needs
 
-cast-bare : tie.Need-cast-bare
-cast-bare c = omega (arith, c .shared-slice-known4 .given (c .before .before .before .before .args .p + 3))
+cast-there : tie.Need-cast-there
+cast-there c = omega (arith, c .shared-slice-known4 .given (c .before .before .before .before .args .p + 3))
 
 returns : tie.Need-returns
-returns c = let a = c .before .before .before .before .before in other-length _ _ (λ e. c .if1 .taken (a .pre .1 .size ∙ e ∙ sym (a .pre .0 .1)))
+returns c = let a = c .before .before .before .before .before in other-weight _ _ (λ e. c .if1 .taken (a .pre .1 .weighs ∙ e ∙ sym (a .pre .0 .1)))
 
 add-a : tie.Need-add-a
 add-a c = search needs
@@ -76,10 +76,10 @@ pub has-attribution-spec : {M : Type 1} → statement M
 has-attribution-spec =
     tie.close
     (tie.spec
-    add-bare
-    mul-bare
-    shared-slice-read-bare
-    cast-bare
+    add-there
+    mul-there
+    shared-slice-read-there
+    cast-there
     returns
     add-a
     mul-a

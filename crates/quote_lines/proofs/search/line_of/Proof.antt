@@ -11,7 +11,7 @@ use Rattle.quote_lines.proofs.search.line_of.Statement.{statement}
 use Rattle.quote_lines.proofs.search.line_of.Tie as tie
 use Rattle.quote_lines.proofs.search.line_of.Reads as reads
 use Rattle.quote_lines.proofs.search.line_of.Lts as lts
-use Rattle.quote_lines.proofs.search.bare_length.Reads as bare-length-reads
+use Rattle.quote_lines.proofs.search.bare_weight.Reads as bare-weight-reads
 use Rattle.quote_lines.proofs.search.has_attribution.Reads as has-attribution-reads
 use Rattle.quote_lines.proofs.search.has_words.Reads as has-words-reads
 use Rattle.quote_lines.proofs.search.line_at.Reads as line-at-reads
@@ -29,7 +29,7 @@ add-has-words : tie.Need-add-has-words Inv-loop μ-loop
 add-has-words c = search needs
 
 has-words-requires : tie.Need-has-words-requires Inv-loop μ-loop
-has-words-requires c κs = let a = c .before .before .before .before in (omega (arith, a .pre .room), a .pre .each (a .args .next) (omega arith) .stands)
+has-words-requires c κs = let a = c .before .before .before .before in (omega (arith, a .pre .0 .room), a .pre .0 .each (a .args .next) (omega arith) .stands)
 
 mul-t14 : tie.Need-mul-t14 Inv-loop μ-loop
 mul-t14 c = search needs
@@ -49,12 +49,12 @@ add-t19 c = search needs
 returns : tie.Need-returns Inv-loop μ-loop
 returns c =
     let a = c .before .before .before .before .before .before .before in
-    let g = a .pre .each (a .args .next) (omega arith) in
+    let g = a .pre .0 .each (a .args .next) (omega arith) in
     let x = c .before .before .has-words .ensures (c .before .if2 .taken) in
-    found _ _ _ _ (finding _ _ _) (omega (arith, a .pre .all)) (sym x ∙ g .words-are) (same-self _) refl (g .line-is)
+    found _ _ _ _ (finding _ _ _) (omega (arith, a .pre .0 .all)) (sym x ∙ g .words-are) (same-self _) refl (g .line-is)
 
-bare-length-requires : tie.Need-bare-length-requires Inv-loop μ-loop
-bare-length-requires c κs = search needs
+bare-weight-requires : tie.Need-bare-weight-requires Inv-loop μ-loop
+bare-weight-requires c κs = search needs
 
 loop-holds : tie.Need-loop-holds Inv-loop μ-loop
 loop-holds c = finding _ _ _
@@ -66,7 +66,7 @@ add-has-attribution : tie.Need-add-has-attribution Inv-loop μ-loop
 add-has-attribution c = search needs
 
 has-attribution-requires : tie.Need-has-attribution-requires Inv-loop μ-loop
-has-attribution-requires c κs = let a = c .before .before .before .before .before .before .before in let l = c .before .loop in ((omega (arith, a .pre .room), c .before .before .bare-length .ensures .0), a .pre .each (l .i) (omega arith) .stands)
+has-attribution-requires c κs = let a = c .before .before .before .before .before .before .before in let l = c .before .loop in ((omega (arith, a .pre .0 .room), c .before .before .bare-weight .ensures .0), a .pre .0 .each (l .i) (omega arith) .stands)
 
 mul-t24 : tie.Need-mul-t24 Inv-loop μ-loop
 mul-t24 c = search needs
@@ -87,8 +87,8 @@ returns-2 : tie.Need-returns-2 Inv-loop μ-loop
 returns-2 c =
     let a = c .before .before .before .before .before .before .before .before .before .before in
     let l = c .before .before .before .before .loop in
-    let g = a .pre .each (l .i) (omega arith) in
-    found _ _ _ _ (l .inv) (omega (arith, a .pre .all)) (g .words-are) (c .before .before .has-attribution .ensures) (c .before .if3 .taken) (g .line-is)
+    let g = a .pre .0 .each (l .i) (omega arith) in
+    found _ _ _ _ (l .inv) (omega (arith, a .pre .0 .all)) (g .words-are) (c .before .before .has-attribution .ensures) (c .before .if3 .taken) (g .line-is)
 
 add-i : tie.Need-add-i Inv-loop μ-loop
 add-i c = search needs
@@ -100,14 +100,14 @@ loop-again : tie.Need-loop-again Inv-loop μ-loop
 loop-again c =
     let a = c .before .before .before .before .before .before .before .before .before in
     let l = c .before .before .before .loop in
-    let g = a .pre .each (l .i) (omega arith) in
-    finding-on _ _ _ _ (l .inv) (omega (arith, a .pre .all)) (g .words-are) (c .before .has-attribution .ensures) (c .if3 .left)
+    let g = a .pre .0 .each (l .i) (omega arith) in
+    finding-on _ _ _ _ (l .inv) (omega (arith, a .pre .0 .all)) (g .words-are) (c .before .has-attribution .ensures) (c .if3 .left)
 
 line-at-requires : tie.Need-line-at-requires Inv-loop μ-loop
 line-at-requires c κs = search needs
 
 returns-3 : tie.Need-returns-3 Inv-loop μ-loop
-returns-3 c = let a = c .before .before .before .before .before .before .before .before in failed _ _ _ _ (c .before .before .loop .inv) (omega (arith, a .pre .all)) (c .line-at .ensures ∙ line-there _ _ _ _ _ (a .pre))
+returns-3 c = let a = c .before .before .before .before .before .before .before .before in failed _ _ _ _ (c .before .before .loop .inv) (omega (arith, a .pre .0 .all)) (c .line-at .ensures ∙ line-there _ _ _ _ _ (a .pre .0))
 
 pub line-of-spec : {M : Type 1} → statement M
 line-of-spec =
@@ -124,7 +124,7 @@ line-of-spec =
     shared-slice-read-t18
     add-t19
     returns
-    bare-length-requires
+    bare-weight-requires
     loop-holds
     mul-has-attribution
     add-has-attribution

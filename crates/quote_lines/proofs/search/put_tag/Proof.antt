@@ -7,26 +7,27 @@ use lib.ListN.{length, getD}
 use lib.ListN.{take, drop, length-set}
 use Rattle.quote_lines.proofs.Tabling.{tag-put}
 use Rattle.quote_lines.specs.Lines.{bare}
+use Rattle.quote_lines.specs.Tables.{weight}
 use Rattle.quote_lines.proofs.search.put_tag.Statement.{statement}
 use Rattle.quote_lines.proofs.search.put_tag.Tie as tie
 use Rattle.quote_lines.proofs.search.put_tag.Reads as reads
 use Rattle.quote_lines.proofs.search.put_tag.Lts as lts
-use Rattle.quote_lines.proofs.search.bare_length.Reads as bare-length-reads
+use Rattle.quote_lines.proofs.search.bare_weight.Reads as bare-weight-reads
 
 add-e : tie.Need-add-e
 add-e c = search needs
 
-sub-bare-length : tie.Need-sub-bare-length
-sub-bare-length c = search needs
+sub-bare-weight : tie.Need-sub-bare-weight
+sub-bare-weight c = search needs
 
-part-bare-length-start : tie.Need-part-bare-length-start
-part-bare-length-start c = search needs
+part-bare-weight-start : tie.Need-part-bare-weight-start
+part-bare-weight-start c = search needs
 
-part-bare-length-end : tie.Need-part-bare-length-end
-part-bare-length-end c = search needs
+part-bare-weight-end : tie.Need-part-bare-weight-end
+part-bare-weight-end c = search needs
 
-bare-length-requires : tie.Need-bare-length-requires
-bare-length-requires c κs = search needs
+bare-weight-requires : tie.Need-bare-weight-requires
+bare-weight-requires c κs = search needs
 
 cast-numbers : tie.Need-cast-numbers
 cast-numbers c = search needs
@@ -77,17 +78,17 @@ same-length : tie.Need-same-length
 same-length c = search needs
 
 returns : tie.Need-returns
-returns c = let a = c .before .before .before .before in let q : a .args .a + a .args .size - a .args .a ≡ a .args .size = omega arith in tag-put (a .args .s .now) (a .args .numbers .now) (a .args .p) (a .args .line) (a .args .a) (a .args .size) _ (a .pre .0 .0) (a .pre .1 .1) (c .bare-length .ensures .0 ∙ ap (λ (y : ℕ). length (bare (take y (drop (a .args .a) (a .args .s .now))))) q)
+returns c = let a = c .before .before .before .before in let q : a .args .a + a .args .size - a .args .a ≡ a .args .size = omega arith in tag-put (a .args .s .now) (a .args .numbers .now) (a .args .p) (a .args .line) (a .args .a) (a .args .size) _ (a .pre .0 .0) (a .pre .1 .1) (c .bare-weight .ensures .0 ∙ ap (λ (y : ℕ). weight (bare (take y (drop (a .args .a) (a .args .s .now))))) q)
 
 pub put-tag-spec : {M : Type 1} → statement M
 put-tag-spec =
     tie.close
     (tie.spec
     add-e
-    sub-bare-length
-    part-bare-length-start
-    part-bare-length-end
-    bare-length-requires
+    sub-bare-weight
+    part-bare-weight-start
+    part-bare-weight-end
+    bare-weight-requires
     cast-numbers
     mul-numbers
     slice-write-numbers

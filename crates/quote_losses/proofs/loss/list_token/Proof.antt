@@ -62,7 +62,10 @@ part-line-of-end-2 c =
 
 line-of-requires : tie.Need-line-of-requires
 line-of-requires c κs =
-    let a = c .before .before .before .before .before .before .before .before .before .before .before .before .before in back-table _ (a .args .numbers .now) (a .args .base) _ (a .pre .1 .1 .0)
+    let a = c .before .before .before .before .before .before .before .before .before .before .before .before .before in
+    let room = opener-room (a .args .source .now) (a .args .from .at .0) _ _ (a .pre .0 .0) (c .before .before .before .before .before .before .tag-at .ensures .1 .0) (c .before .before .before .before .if1 .taken) (c .before .before .before .attribution-size .ensures) in
+    let h = attribution-short (a .args .source .now) (a .args .from .at .0) _ _ (a .pre .0 .0) (c .before .before .before .before .before .before .tag-at .ensures .1 .0) (c .before .before .before .before .if1 .taken) (c .before .before .before .attribution-size .ensures) in
+    (back-table _ (a .args .numbers .now) (a .args .base) _ (a .pre .1 .1 .0), omega (arith, h, room .1, a .pre .0 .1))
 
 sub-put-losses : tie.Need-sub-put-losses
 sub-put-losses c = search needs
