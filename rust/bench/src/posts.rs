@@ -142,6 +142,12 @@ pub const FAMILIES: &[Family] = &[
         make: |n| again("[quote=a[/b]xyz][/quote]", n),
         search: true,
     },
+    Family {
+        name: "line search, one weight",
+        shape: "`[quote=a[/b]NOO][/quote]`: no tag of the post has the attribution `aNOO`, and all, `a[/b`, have its length and the same sum of bytes",
+        make: |n| again("[quote=a[/b]NOO][/quote]", n),
+        search: true,
+    },
     family("line search, one attribution", "`[quote=Ann rank=3]a[/quote]` again and again: each tag is found at once", |n| {
         again("[quote=Ann rank=3]a[/quote]", n)
     }),

@@ -54,13 +54,13 @@ pub fn in_a_row(each: Duration, contenders: &mut [&mut dyn FnMut()]) -> Vec<f64>
     by_samples(Duration::from_millis(2), each, contenders)
 }
 
-/// The least of the samples of a length, thirty at least, so that a long call too has one that nothing disturbed.
+/// The least of the samples of a length, sixty at least, so that a long call too has one that nothing disturbed.
 fn by_samples(length: Duration, each: Duration, contenders: &mut [&mut dyn FnMut()]) -> Vec<f64> {
     let calls: Vec<u32> = contenders.iter_mut().map(|c| calls_in_a_sample(length, *c)).collect();
     let mut least = vec![f64::INFINITY; contenders.len()];
     let until = now() + each.as_nanos() as f64 * contenders.len() as f64;
     let mut rounds = 0;
-    while rounds < 30 || now() < until {
+    while rounds < 60 || now() < until {
         for ((contender, calls), least) in contenders.iter_mut().zip(&calls).zip(&mut least) {
             *least = least.min(sample(*calls, *contender));
         }
