@@ -1,12 +1,10 @@
 -- Laws of a slot that begins with a text, and of one that is a text. Assumes nothing.
 use mathlib.Core.Path.{_≡_, refl, sym, ap, _∙_, subst}
 use mathlib.Core.List.{List, []}
-use mathlib.Core.Bool.{Bool, true, false, _&&_, false≢true}
+use mathlib.Core.Bool.{false}
 use Prim.Native.Nat.{ℕ, _+_, _*_, _≤_, _<_}
 use native.Mathlib.Omega.{arith}
-use lib.Dec.{eqb, ltb}
 use lib.ListN.{length, getD}
-use borrow.Author.Tests.{eqb-true, ltb-true}
 use Rattle.text.specs.Cells.{Cell, cells, part}
 use Rattle.text.specs.Writes.{Appends}
 use Rattle.text.proofs.Writing.{appends-none}
@@ -14,16 +12,11 @@ use Rattle.mark_tags.specs.Marks.{Slots, end, text, front, closed, next, pieceT
 use Rattle.mark_tags.specs.Flat.{within, beyond, slotAt, boundAt, Held, Ready, Answer}
 use Rattle.mark_pieces.specs.Spans.{Writes, SlotWritten}
 use Rattle.mark_pieces.proofs.Pieces.{unescaped, piece-by}
-use Rattle.mark_writing.specs.OneText.{OneText}
+use Rattle.mark_writing.specs.OneText.{SomeText, OneText}
 use Rattle.mark_writing.proofs.Slotting.{at-text, at-leave, bounds, some-text}
 use Rattle.mark_writing.proofs.Looking.{here-start, look-text, answer-some}
 use Rattle.mark_writing.proofs.Drawing.{▹-plain, writes-plain}
 use Rattle.mark_writing.proofs.SlotWriting.{text-step}
-
-all-three : (a b c : Bool) → (a && b && c) ≡ true → (a ≡ true) × (b ≡ true) × (c ≡ true)
-all-three true true c e = (refl, refl, e)
-all-three true false c e = absurd (false≢true e)
-all-three false b c e = absurd (false≢true e)
 
 module _ (src ns : List ℕ) (k from : ℕ) where
   abbrev first : ℕ
@@ -32,22 +25,19 @@ module _ (src ns : List ℕ) (k from : ℕ) where
   abbrev behind : ℕ
   behind = getD ns (length src + (from + 1)) 0
 
-  pub first-text : (depth : ℕ) → Ready src ns k from depth → (ltb from k && eqb (getD ns (2 * length src + 2 + from) 0) 0 && ltb first behind) ≡ true → Answer src ns k from 0
+  pub first-text : (depth : ℕ) → Ready src ns k from depth → from < k → SomeText src ns from → Answer src ns k from 0
   unfolding boundAt
-  first-text depth r e =
-      let t = all-three (ltb from k) (eqb (getD ns (2 * length src + 2 + from) 0) 0) (ltb first behind) e in
-      answer-some src ns k from (look-text src ns k from depth from (here-start src ns k from depth r) (ltb-true _ _ (t .0)) (eqb-true _ _ (t .1)) (ltb-true _ _ (t .2)) .0)
+  first-text depth r h t = answer-some src ns k from (look-text src ns k from depth from (here-start src ns k from depth r) h (t .code) (t .some) .0)
 
-  pub one-text : from + 1 < k → (eqb (getD ns (2 * length src + 2 + from) 0) 0 && ltb first behind && eqb (getD ns (2 * length src + 2 + (from + 1)) 0) 2) ≡ true → OneText src ns k from
+  pub one-text : from + 1 < k → SomeText src ns from → getD ns (2 * length src + 2 + (from + 1)) 0 ≡ 2 → OneText src ns k from
   unfolding boundAt
-  one-text h e =
-      let t = all-three (eqb (getD ns (2 * length src + 2 + from) 0) 0) (ltb first behind) (eqb (getD ns (2 * length src + 2 + (from + 1)) 0) 2) e in
+  one-text h t e =
       let n : from + 1 + 1 ≡ from + 2 = omega arith in
-      let z : slotAt src ns k (from + 1) ≡ closed end (slotAt src ns k (from + 2)) = rw (← n) (at-leave src ns k (from + 1) h (eqb-true _ _ (t .2))) in
+      let z : slotAt src ns k (from + 1) ≡ closed end (slotAt src ns k (from + 2)) = rw (← n) (at-leave src ns k (from + 1) h e) in
       record {
         inside = omega arith;
-        some = ltb-true _ _ (t .1);
-        slot = at-text src ns k from (omega arith) (eqb-true _ _ (t .0)) ∙ ap (front (text (part first behind (cells src ns)))) z;
+        some = t .some;
+        slot = at-text src ns k from (omega arith) (t .code) ∙ ap (front (text (part first behind (cells src ns)))) z;
       }
 
   module _ (t : Held src ns k) (o : OneText src ns k from) where

@@ -17,8 +17,17 @@ ghost use lib.ListN.{length, getD};
 ghost use Rattle.mark_tags.specs.Marks.{next, marked, touching};
 ghost use Rattle.mark_tags.specs.Flat.{within, slotAt, NextIs, Held, Ready, Answer};
 ghost use Rattle.mark_pieces.specs.Spans.{Slot, SlotWritten, MarkReady, MarkWritten};
-ghost use Rattle.mark_writing.specs.OneText.{OneText};
+ghost use Rattle.mark_writing.specs.OneText.{SomeText, OneText};
 ghost use Rattle.mark_writing.specs.Bodied.{Bodied};
+
+// Whether item i is a text that is not empty.
+fn is_text(text: &[u8], nums: &[u32], k: usize, i: usize) -> bool
+    requires { ⌜ Held (now text) (now nums) k × (i < k) ⌝ }
+    ensures { λ r. ⌜ (r ≡ true → SomeText (now (text .entry)) (now (nums .entry)) i) ⌝ }
+{
+    let n = text.len();
+    (nums[2 * n + 2 + i] == 0) & (nums[n + i] < nums[n + (i + 1)])
+}
 
 // Whether a slot holds text, at some depth: 0 if so, else 1 + the item behind the slot.
 pub fn content(text: &[u8], nums: &[u32], k: usize, from: usize, depth: usize) -> usize
@@ -55,9 +64,10 @@ fn content_of(text: &[u8], nums: &[u32], k: usize, from: usize, depth: usize) ->
     requires { ⌜ Ready (now text) (now nums) k from depth ⌝ }
     ensures { λ r. ⌜ Answer (now (text .entry)) (now (nums .entry)) k from r ⌝ }
 {
-    let n = text.len();
-    if (from < k) & (nums[2 * n + 2 + from] == 0) & (nums[n + from] < nums[n + (from + 1)]) {
-        return 0;
+    if from < k {
+        if is_text(text, nums, k, from) {
+            return 0;
+        }
     }
     content(text, nums, k, from, depth)
 }
@@ -150,9 +160,7 @@ fn is_one_text(text: &[u8], nums: &[u32], k: usize, from: usize) -> bool
     if k <= from + 1 {
         return false;
     }
-    (nums[2 * n + 2 + from] == 0)
-        & (nums[n + from] < nums[n + (from + 1)])
-        & (nums[2 * n + 2 + (from + 1)] == 2)
+    is_text(text, nums, k, from) & (nums[2 * n + 2 + (from + 1)] == 2)
 }
 
 // Writes a slot that is one text: at once, since nothing is guarded before it or written behind it.
