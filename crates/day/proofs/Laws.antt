@@ -17,6 +17,7 @@ use Rattle.day.specs.declared.Dated.{Dated}
 use Rattle.day.specs.declared.Dated.the-variants.{Done, Refused}
 use Rattle.lending.specs.declared.lent.Refusal.the-variants.{SizesWrong, NotSeconds}
 use Rattle.text.specs.Writes.{cleared, padded}
+use Rattle.text.proofs.Bytes.{both, inside-true}
 use Rattle.day.proofs.March.{below12, stands, Stands, yearStart, monthStart, leapDay, yearOf, monthOf, marchLength}
 
 digits-cons : (s : List ℕ) (i : ℕ) → i < length s → allDigits (drop i s) ≡ (isDigit (getD s i 0) && allDigits (drop (i + 1) s))
@@ -51,19 +52,11 @@ pub seconds-digits : (s : List ℕ) → 9 ≤ length s → length s ≤ 11 → i
 unfolding isSeconds
 seconds-digits s h k = rw (le-leb 9 (length s) h, le-leb (length s) 11 k)
 
-and-true-left : (a b : Bool) → (a && b) ≡ true → a ≡ true
-and-true-left true b p = refl
-and-true-left false b p = p
-
-and-true-right : (a b : Bool) → (a && b) ≡ true → b ≡ true
-and-true-right true b p = p
-and-true-right false b p = let z : _≡_ {A = Bool} false true = p in cc
-
 pub seconds-are : (s : List ℕ) → isSeconds s ≡ true → (length s ≤ 11) × (allDigits s ≡ true)
 unfolding isSeconds
 seconds-are s p =
-    let q = and-true-right (leb 9 (length s)) (leb (length s) 11 && allDigits s) p in
-    (leb-true (length s) 11 (and-true-left (leb (length s) 11) (allDigits s) q), and-true-right (leb (length s) 11) (allDigits s) q)
+    let q = both (leb (length s) 11) (allDigits s) (both (leb 9 (length s)) (leb (length s) 11 && allDigits s) p .1) in
+    (leb-true (length s) 11 (q .0), q .1)
 
 -- ---- the number that digits spell
 
@@ -83,8 +76,9 @@ unfolding inside
 digit-at s i lt p =
     let b = getD s i 0 in
     let q : (isDigit b && allDigits (drop (i + 1) s)) ≡ true = sym (digits-cons s i lt) ∙ p in
-    let d = and-true-left (isDigit b) (allDigits (drop (i + 1) s)) q in
-    (leb-true 48 b (and-true-left (leb 48 b) (leb b 57) d), leb-true b 57 (and-true-right (leb 48 b) (leb b 57) d), and-true-right (isDigit b) (allDigits (drop (i + 1) s)) q)
+    let d = both (isDigit b) (allDigits (drop (i + 1) s)) q in
+    let r = inside-true 48 57 b (d .0) in
+    (r .0, r .1, d .1)
 
 pub number-turn : (s : List ℕ) (i n : ℕ) → i < length s → numberAfter n (drop i s) ≡ numberAfter (10 * n + (getD s i 0 - 48)) (drop (i + 1) s)
 unfolding numberAfter
