@@ -2,24 +2,8 @@
 
 use std::path::{Path, PathBuf};
 
-pub const HELP: &str = "\
-./convert [-o DIR] FILE..     BBCode forum posts to Carve text
-./convert --explain FILE..    the same, with every byte's way shown
-
-Each FILE is one post in UTF-8, of at most 262,144 bytes; - is standard input.
-The Carve text goes to standard output. What a quote's caption does not say any
-more is listed on standard error, as FILE:LINE: with the line of the quote.
-
-  -o DIR      write DIR/NAME.crv for each FILE instead, NAME being the file's
-              name without its last extension (stdin for -)
-  --explain   show, instead of the text alone, what was copied from the post, what
-              a rule wrote {+so+} and what was taken out [-so-]: tags, and blanks
-              that were trimmed; in colour on a terminal
-  --help      this page
-
-Exit status: 0 all converted; 1 a post was refused (its number is said);
-2 bad usage, or a file that cannot be read or written.
-";
+/// What `--help` shows; the script ./convert shows it too, before anything is built.
+pub const HELP: &str = include_str!("help.txt");
 
 #[derive(Debug, PartialEq, Eq)]
 pub enum Asked {
