@@ -1,9 +1,5 @@
-//! Links the archive that `rt staticlib carve` writes, and Debian's cmark.
+//! Links Debian's cmark.
 
 fn main() {
-    let archive = concat!(env!("CARGO_MANIFEST_DIR"), "/../../target/staticlib");
-    println!("cargo:rerun-if-changed={archive}/libcarve.a");
-    println!("cargo:rustc-link-search=native={archive}");
-    println!("cargo:rustc-link-lib=static=carve");
     println!("cargo:rustc-link-lib=dylib=cmark");
 }

@@ -1,8 +1,8 @@
 //! Times whole posts in one run: the proved converter, the Rust original, cmark and memcpy. Writes the table into the page that is named first
 //! and the picture into the file that is named second.
 
-mod carve;
 mod cmark;
+mod lent;
 mod picture;
 mod posts;
 mod runs;

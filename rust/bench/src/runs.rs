@@ -1,8 +1,8 @@
 //! What is timed, and what comes of it.
 
 use crate::{
-    carve::Lent,
     cmark,
+    lent::Lent,
     posts::{self, Family},
     time,
 };

@@ -1,33 +1,12 @@
 //! The proved converter: one call of `carve_post` in memory that is kept from call to call.
 
-extern "C" {
-    fn carve_post(
-        text: *const u8,
-        text_len: usize,
-        out: *mut u8,
-        out_len: usize,
-        origins: *mut u32,
-        origins_len: usize,
-        records: *mut u32,
-        records_len: usize,
-        loss_bytes: *mut u8,
-        loss_bytes_len: usize,
-        work: *mut u8,
-        work_len: usize,
-        numbers: *mut u32,
-        numbers_len: usize,
-        counts: *mut [u32; 3],
-    ) -> u32;
-}
-
-/// The greatest output that may be lent.
-const OUT_MOST: usize = 16_777_216;
+use carve::{numbers_size, work_size, Operation, Record, MAX_OUT};
 
 /// Memory lent for posts of one length, and what the last call left in it.
 pub struct Lent {
     pub out: Vec<u8>,
     pub origins: Vec<u32>,
-    records: Vec<u32>,
+    records: Vec<Record>,
     loss_bytes: Vec<u8>,
     work: Vec<u8>,
     numbers: Vec<u32>,
@@ -39,10 +18,10 @@ impl Lent {
         Lent {
             out: vec![0xAA; m],
             origins: vec![0xAAAA_AAAA; m],
-            records: vec![0xAAAA_AAAA; 5 * records],
+            records: vec![Record::default(); records],
             loss_bytes: vec![0xAA; loss_bytes],
-            work: vec![0xAA; n + 3 * m],
-            numbers: vec![0xAAAA_AAAA; 8 * n + 3 * m + 64],
+            work: vec![0xAA; work_size(n, m)],
+            numbers: vec![0xAAAA_AAAA; numbers_size(n, m)],
             counts: [7; 3],
         }
     }
@@ -55,7 +34,7 @@ impl Lent {
         loop {
             let mut lent = Lent::new(n, m, records, loss_bytes);
             match lent.convert(text) {
-                6 if m < OUT_MOST => m = (2 * m).min(OUT_MOST),
+                6 if m < MAX_OUT => m = (2 * m).min(MAX_OUT),
                 7 => records *= 2,
                 8 => loss_bytes *= 2,
                 _ => return lent,
@@ -65,26 +44,17 @@ impl Lent {
 
     /// Converts a post. Document 01's number: 0 for done.
     pub fn convert(&mut self, text: &[u8]) -> u32 {
-        // SAFETY: each pair is the pointer and the length of a live slice, and no two of them overlap.
-        unsafe {
-            carve_post(
-                text.as_ptr(),
-                text.len(),
-                self.out.as_mut_ptr(),
-                self.out.len(),
-                self.origins.as_mut_ptr(),
-                self.origins.len(),
-                self.records.as_mut_ptr(),
-                self.records.len() / 5,
-                self.loss_bytes.as_mut_ptr(),
-                self.loss_bytes.len(),
-                self.work.as_mut_ptr(),
-                self.work.len(),
-                self.numbers.as_mut_ptr(),
-                self.numbers.len(),
-                &mut self.counts,
-            )
+        carve::Lent {
+            out: &mut self.out,
+            origins: &mut self.origins,
+            spans: &mut [],
+            records: &mut self.records,
+            loss_bytes: &mut self.loss_bytes,
+            work: &mut self.work,
+            numbers: &mut self.numbers,
+            counts: &mut self.counts,
         }
+        .call(Operation::Post, text)
     }
 
     /// The length of the converted text.
