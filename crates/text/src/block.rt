@@ -1,6 +1,6 @@
 // Copying in blocks of 16: a run is copied with up to 15 cells behind its end, which the next run overwrites. A block is read whole before it is
-// written, so that it is moved in a few wide steps; bytes and numbers are copied in one loop, since where a short run ends is mispredicted once for
-// each loop.
+// written, so that it is moved in a few wide steps. Bytes and numbers are copied one after the other: written in turns, they would wait for each
+// other's cache lines.
 ghost use mathlib.Core.Path.{_≡_};
 ghost use Prim.Native.Nat.{_+_, _-_, _≤_};
 ghost use lib.ListN.{length, take, drop};
@@ -44,6 +44,36 @@ fn write8(buf: &mut [u8], at: usize, block: [u8; 16])
     }
 }
 
+// Copies the bytes from a up to e to a place on.
+fn blocks8(src: &[u8], a: usize, e: usize, buf: &mut [u8], at: usize)
+    requires { ⌜ ((a ≤ e) × (e + 15 ≤ length (now src))) × (at + (e - a) + 15 ≤ length (now buf)) ⌝ }
+    ensures { λ _. ⌜ Pasted (now (buf .entry)) at (now (buf .exit)) (take (e - a) (drop a (now (src .entry)))) ⌝ }
+{
+    let mut i = a;
+    let mut to = at;
+    while i < e {
+        let block = read8(src, i);
+        write8(buf, to, block);
+        to += 16;
+        i += 16;
+    }
+}
+
+// The same within one slice, where the place is behind the run.
+fn within8(buf: &mut [u8], a: usize, e: usize, at: usize)
+    requires { ⌜ ((a ≤ e) × (e + 15 ≤ at)) × (at + (e - a) + 15 ≤ length (now buf)) ⌝ }
+    ensures { λ _. ⌜ Pasted (now (buf .entry)) at (now (buf .exit)) (take (e - a) (drop a (now (buf .entry)))) ⌝ }
+{
+    let mut i = a;
+    let mut to = at;
+    while i < e {
+        let block = read8(&buf[..], i);
+        write8(buf, to, block);
+        to += 16;
+        i += 16;
+    }
+}
+
 // The 16 numbers from i on.
 fn read32(src: &[u32], i: usize) -> [u32; 16]
     requires { ⌜ i + 16 ≤ length (now src) ⌝ }
@@ -81,6 +111,36 @@ fn write32(buf: &mut [u32], at: usize, block: [u32; 16])
     }
 }
 
+// Copies the numbers from a up to e to a place on.
+fn blocks32(src: &[u32], a: usize, e: usize, buf: &mut [u32], at: usize)
+    requires { ⌜ ((a ≤ e) × (e + 15 ≤ length (now src))) × (at + (e - a) + 15 ≤ length (now buf)) ⌝ }
+    ensures { λ _. ⌜ Pasted (now (buf .entry)) at (now (buf .exit)) (take (e - a) (drop a (now (src .entry)))) ⌝ }
+{
+    let mut i = a;
+    let mut to = at;
+    while i < e {
+        let block = read32(src, i);
+        write32(buf, to, block);
+        to += 16;
+        i += 16;
+    }
+}
+
+// The same within one slice, where the place is behind the run.
+fn within32(buf: &mut [u32], a: usize, e: usize, at: usize)
+    requires { ⌜ ((a ≤ e) × (e + 15 ≤ at)) × (at + (e - a) + 15 ≤ length (now buf)) ⌝ }
+    ensures { λ _. ⌜ Pasted (now (buf .entry)) at (now (buf .exit)) (take (e - a) (drop a (now (buf .entry)))) ⌝ }
+{
+    let mut i = a;
+    let mut to = at;
+    while i < e {
+        let block = read32(&buf[..], i);
+        write32(buf, to, block);
+        to += 16;
+        i += 16;
+    }
+}
+
 // Copies the cells from a up to e to a place on.
 pub fn blocks(
     src: &[u8],
@@ -94,16 +154,8 @@ pub fn blocks(
     requires { ⌜ ((a ≤ e) × ((e + 15 ≤ length (now src)) × (e + 15 ≤ length (now from)))) × ((at + (e - a) + 15 ≤ length (now buf)) × (at + (e - a) + 15 ≤ length (now nums))) ⌝ }
     ensures { λ _. ⌜ Pasted (now (buf .entry)) at (now (buf .exit)) (take (e - a) (drop a (now (src .entry)))) × Pasted (now (nums .entry)) at (now (nums .exit)) (take (e - a) (drop a (now (from .entry)))) ⌝ }
 {
-    let mut i = a;
-    let mut to = at;
-    while i < e {
-        let bytes = read8(src, i);
-        let numbers = read32(from, i);
-        write8(buf, to, bytes);
-        write32(nums, to, numbers);
-        to += 16;
-        i += 16;
-    }
+    blocks8(src, a, e, buf, at);
+    blocks32(from, a, e, nums, at);
 }
 
 // The same within one pair of slices, where the place is behind the run.
@@ -111,14 +163,6 @@ pub fn within(buf: &mut [u8], nums: &mut [u32], a: usize, e: usize, at: usize)
     requires { ⌜ ((a ≤ e) × (e + 15 ≤ at)) × ((at + (e - a) + 15 ≤ length (now buf)) × (at + (e - a) + 15 ≤ length (now nums))) ⌝ }
     ensures { λ _. ⌜ Pasted (now (buf .entry)) at (now (buf .exit)) (take (e - a) (drop a (now (buf .entry)))) × Pasted (now (nums .entry)) at (now (nums .exit)) (take (e - a) (drop a (now (nums .entry)))) ⌝ }
 {
-    let mut i = a;
-    let mut to = at;
-    while i < e {
-        let bytes = read8(&buf[..], i);
-        let numbers = read32(&nums[..], i);
-        write8(buf, to, bytes);
-        write32(nums, to, numbers);
-        to += 16;
-        i += 16;
-    }
+    within8(buf, a, e, at);
+    within32(nums, a, e, at);
 }
