@@ -1,14 +1,14 @@
 -- Laws of the refusals 3 and 4. Assumes nothing.
 use mathlib.Core.Path.{_≡_, refl, sym, ap, _∙_}
-use mathlib.Core.Bool.{Bool, true, false, not, _&&_, _||_}
+use mathlib.Core.Bool.{Bool, true, false, not, cond, _&&_, _||_}
 use Prim.Native.Nat.{ℕ, zero, suc, _+_, _-_, _≤_, _<_}
-use native.Mathlib.Nat.{add-zero}
+use native.Mathlib.Nat.{add-zero, le-of-suc-le-suc, not-suc-le-zero}
 use native.Mathlib.Numerals.{add-one}
 use native.Mathlib.Omega.{arith}
-use mathlib.Core.List.{List}
-use lib.ListN.{length, drop, getD, drop-of-length-le, List·getD-eq-default}
-use lib.Seq.{drop-cons}
-use lib.Dec.{leb, ltb}
+use mathlib.Core.List.{List, [], _∷_}
+use lib.ListN.{length, drop, getD, drop-of-length-le, length-drop, List·getD-eq-default}
+use lib.Seq.{drop-cons, getD-drop}
+use lib.Dec.{eqb, leb, ltb}
 use borrow.Author.Tests.{ne-eqb, leb-false, ltb-true, ltb-false}
 use Rattle.text.specs.Ascii.{toFirst}
 use Rattle.text.proofs.Bytes.{first-plain-at}
@@ -120,3 +120,20 @@ module _ (s : List ℕ) (i n : ℕ) (w : 128 ≤ getD s i 0) (e : n ≡ charSize
 
   pub clean-char : clean (drop i s) ≡ clean (drop (i + n) s)
   clean-char = rw (utf8-turn s i n (wide-within s i w) e z, any-wide s n i wide)
+
+-- flags of the first bytes of a text: the first flag that is 1 stands no further than the first byte that it is for
+pub flags-first : (p : ℕ → Bool) (flags s : List ℕ) → length flags ≤ length s → ((k : ℕ) → k < length flags → getD flags k 0 ≡ cond (p (getD s k 0)) 1 0) → toFirst (λ x. eqb x 1) flags ≤ toFirst p s
+unfolding toFirst
+flags-first p [] s le h = omega arith
+flags-first p (f ∷ flags) [] le h = absurd (not-suc-le-zero le)
+flags-first p (f ∷ flags) (b ∷ s) le h = by (p b) (h 0 (omega arith)) (flags-first p flags s (le-of-suc-le-suc le) (λ k l. h (suc k) (omega arith)))
+  where
+    by : (t : Bool) → f ≡ cond t 1 0 → toFirst (λ x. eqb x 1) flags ≤ toFirst p s → cond (eqb f 1) 0 (suc (toFirst (λ x. eqb x 1) flags)) ≤ cond t 0 (suc (toFirst p s))
+    by true e z = rw e (omega arith)
+    by false e z = rw e (omega (arith, z))
+
+pub odd-first : (s : List ℕ) (i : ℕ) (flags : List ℕ) → i + 16 ≤ length s → length flags ≡ 16 → ((k : ℕ) → k < 16 → getD flags k 0 ≡ cond (odd (getD s (i + k) 0)) 1 0)
+    → toFirst (λ x. eqb x 1) flags ≤ toFirst odd (drop i s)
+odd-first s i flags le e h =
+    let d = length-drop i s in
+    flags-first odd flags (drop i s) (omega (arith, d)) (λ k l. h k (omega arith) ∙ ap (λ (b : ℕ). cond (odd b) 1 0) (sym (getD-drop i s k 0)))

@@ -1,11 +1,13 @@
 // What is lent, and the refusals 1 to 4 that every operation on a text begins with (document 01, "Lent memory and turned-back calls").
 use crate::utf8::char_size;
 use crate::utf8::is_utf8;
+use text::scan::first_in_16;
+use text::scan::stands_in_16;
 ghost use mathlib.Core.Path.{_≡_};
-ghost use mathlib.Core.Bool.{not, _&&_, _||_};
-ghost use Prim.Native.Nat.{_+_, _≤_};
-ghost use lib.ListN.{length, drop};
-ghost use lib.Dec.{leb, ltb};
+ghost use mathlib.Core.Bool.{not, cond, _&&_, _||_};
+ghost use Prim.Native.Nat.{ℕ, _+_, _≤_, _<_};
+ghost use lib.ListN.{length, getD, drop};
+ghost use lib.Dec.{leb};
 ghost use Rattle.text.specs.Ascii.{toFirst};
 ghost use Rattle.lending.specs.Utf8.{utf8};
 ghost use Rattle.lending.specs.Lent.{numberOf, spansRight, sizesRight, zeroOrReturn, anyZeroOrReturn, checked};
@@ -100,41 +102,40 @@ fn is_zero_or_return(b: u8) -> bool
     (b == 0) | (b == 13)
 }
 
-// Whether one of n bytes from i on is odd: 0, 13 or not ASCII. One comparison of all of them where the machine has it and n is known.
-fn has_odd(s: &[u8], i: usize, n: usize) -> bool
-    requires { ⌜ i + n ≤ length (now s) ⌝ }
-    ensures { λ r. ⌜ r ≡ ltb (toFirst (λ x. leb 128 x || zeroOrReturn x) (drop i (now (s .entry)))) n ⌝ }
+// 1 for an odd byte, which is 0, 13 or not ASCII, else 0.
+fn odd_flag(b: u8) -> u8
+    ensures { λ r. ⌜ r ≡ cond (leb 128 b || zeroOrReturn b) 1 0 ⌝ }
 {
-    let mut has = false;
+    if (128 <= b) | is_zero_or_return(b) {
+        return 1;
+    }
+    0
+}
+
+// Sets the first 16 flags, for the bytes from i on.
+fn set_odd(s: &[u8], i: usize, flags: &mut [u8])
+    requires { ⌜ (i + 16 ≤ length (now s)) × (16 ≤ length (now flags)) ⌝ }
+    ensures { λ _. ⌜ ((k : ℕ) → k < 16 → getD (now (flags .exit)) k 0 ≡ cond (leb 128 (getD (now (s .entry)) (i + k) 0) || zeroOrReturn (getD (now (s .entry)) (i + k) 0)) 1 0) ⌝ }
+{
     let mut k: usize = 0;
-    while k < n {
-        let b = s[i + k];
-        has = has | ((128 <= b) | is_zero_or_return(b));
+    while k < 16 {
+        flags[k] = odd_flag(s[i + k]);
         k += 1;
     }
-    has
 }
 
-// n where none of n bytes from i on is odd, else 0.
-fn plain(s: &[u8], i: usize, n: usize) -> usize
-    requires { ⌜ i + n ≤ length (now s) ⌝ }
-    ensures { λ r. ⌜ (r ≤ n) × (r ≤ toFirst (λ x. leb 128 x || zeroOrReturn x) (drop i (now (s .entry)))) ⌝ }
-{
-    if has_odd(s, i, n) {
-        return 0;
-    }
-    n
-}
-
-// The first odd one of 16 bytes from i on, by halves: where a loop over them ends would be mispredicted.
-fn first_odd(s: &[u8], i: usize) -> usize
+// How many of the 16 bytes from i on stand before the first odd one; 16 where none is odd. The flags are in an array, so that all 16 are found at once
+// where the machine can.
+fn before_odd(s: &[u8], i: usize) -> usize
     requires { ⌜ i + 16 ≤ length (now s) ⌝ }
-    ensures { λ r. ⌜ (i ≤ r) × (r ≤ length (now (s .entry))) × ((utf8 (drop i (now (s .entry))) && not (anyZeroOrReturn (drop i (now (s .entry))))) ≡ (utf8 (drop r (now (s .entry))) && not (anyZeroOrReturn (drop r (now (s .entry)))))) ⌝ }
+    ensures { λ r. ⌜ (r ≤ 16) × (r ≤ toFirst (λ x. leb 128 x || zeroOrReturn x) (drop i (now (s .entry)))) ⌝ }
 {
-    let a = i + plain(s, i, 8);
-    let b = a + plain(s, a, 4);
-    let c = b + plain(s, b, 2);
-    c + plain(s, c, 1)
+    let mut flags: [u8; 16] = [0; 16];
+    set_odd(s, i, &mut flags);
+    if stands_in_16(&flags, 0, 1) {
+        return first_in_16(&flags, 0, 1);
+    }
+    16
 }
 
 // Past bytes from a place on none of which is odd, in blocks of 16.
@@ -144,8 +145,9 @@ fn past_clean(s: &[u8], at: usize) -> usize
 {
     let mut i = at;
     while 16 <= s.len() - i {
-        if has_odd(s, i, 16) {
-            return first_odd(s, i);
+        let n = before_odd(s, i);
+        if n < 16 {
+            return i + n;
         }
         i += 16;
     }

@@ -57,7 +57,7 @@ pub fn begins_at(s: &[u8], at: PostAt, word: &[u8]) -> bool
 }
 
 // Whether a byte stands among the 16 from i on: one comparison of all 16 where the machine has it.
-fn stands_in_16(s: &[u8], i: usize, b: u8) -> bool
+pub fn stands_in_16(s: &[u8], i: usize, b: u8) -> bool
     requires { ⌜ i + 16 ≤ length (now s) ⌝ }
     ensures { λ r. ⌜ r ≡ ltb (toFirst (λ x. eqb x b) (drop i (now (s .entry)))) 16 ⌝ }
 {
@@ -102,7 +102,7 @@ fn digits_of_16(s: &[u8], i: usize, b: u8) -> u32
 }
 
 // How many of the 16 bytes from i on stand before the first b, which is among them.
-fn first_in_16(s: &[u8], i: usize, b: u8) -> usize
+pub fn first_in_16(s: &[u8], i: usize, b: u8) -> usize
     requires { ⌜ (i + 16 ≤ length (now s)) × (toFirst (λ x. eqb x b) (drop i (now s)) < 16) ⌝ }
     ensures { λ r. ⌜ r ≡ toFirst (λ x. eqb x b) (drop i (now (s .entry))) ⌝ }
 {
