@@ -2,17 +2,16 @@
 use mathlib.Core.Path.{_≡_, refl, sym, ap, _∙_}
 use mathlib.Core.Bool.{Bool, true, false, cond, not, _&&_, _||_, true≢false}
 use mathlib.Core.List.{List, [], _∷_, _++_, append-nil, append-assoc}
-use Prim.Native.Nat.{ℕ, zero, suc, _+_, _-_, _≤_, _<_}
+use Prim.Native.Nat.{ℕ, suc, _+_, _-_, _≤_, _<_}
 use native.Mathlib.Nat.{add-sub-cancel-left}
 use native.Mathlib.Omega.{arith}
 use lib.Dec.{eqb, ltb}
 use lib.ListN.{length, take, drop, length-append}
-use borrow.Author.Tests.{eq-eqb, ne-eqb, lt-ltb}
+use borrow.Author.Tests.{lt-ltb}
 use Rattle.text.specs.Ascii.{inside, ascii, isEmpty}
 use Rattle.text.specs.Blanks.{computes as blanksCompute}
 use Rattle.text.specs.Cells.{Cell, cell, sign, written, cellsFrom}
 use Rattle.text.specs.Writes.{Appends}
-use Rattle.text.proofs.Writing.{appends-none, appends-then}
 use Rattle.day.specs.Day.{iso, isSeconds, dayOf}
 use Rattle.attribution_parts.specs.declared.Kind.{Kind}
 use Rattle.attribution_parts.specs.declared.Kind.the-variants.{Name, Date, Time}
@@ -23,7 +22,7 @@ use Rattle.attribution_reading.specs.Reads.{FieldAt}
 use Rattle.attribution_reading.specs.declared.facts.Fields.{Fields}
 use Rattle.attribution_reading.specs.declared.facts.Ends.{Ends}
 use Rattle.attribution_losses.specs.Lists.{Told}
-use Rattle.attribution_losses.proofs.Losing.{empty-is, empty-words}
+use Rattle.attribution_losses.proofs.Losing.{empty-is}
 use Rattle.attribution_reading.specs.Places.{bytes}
 use Rattle.attribution_losses.specs.Captions.{gap, named, nameTexts}
 use Rattle.attribution.proofs.TextLaws.{written-append, written-first}

@@ -1,21 +1,20 @@
 -- Laws of a whole call of `format_attribution`. Assumes nothing.
 use mathlib.Core.Path.{_≡_, refl, sym, ap, _∙_}
-use mathlib.Core.Bool.{Bool, false, cond}
-use mathlib.Core.List.{List, [], _∷_, _++_}
-use Prim.Native.Nat.{ℕ, zero, suc, _+_, _-_, _*_, _≤_, _<_}
+use mathlib.Core.Bool.{false}
+use mathlib.Core.List.{List, [], _++_}
+use Prim.Native.Nat.{ℕ, _+_, _-_, _*_, _≤_, _<_}
 use native.Mathlib.Nat.{sub-zero}
 use native.Mathlib.Omega.{arith}
 use native.Mathlib.Decide.{decLe}
 use lib.Dec.{ltb}
 use lib.ListN.{length, take, drop, length-map}
-use lib.Seq.{length-take-le, take-length, drop-append-seam}
+use lib.Seq.{length-take-le, drop-append-seam}
 use borrow.Author.Tests.{lt-ltb, le-ltb}
 use Rattle.text.specs.Cells.{Cell, cells, written, bytes as textOf}
 use Rattle.text.specs.Writes.{Holds, Appends, LaidOut, cleared, padded}
 use Rattle.lending.specs.Lent.{checked}
 use Rattle.lending.specs.declared.lent.Refusal.{Refusal}
 use Rattle.lending.specs.declared.lent.Refusal.the-variants.{NoSpace, TooManyLosses, LossBytesShort}
-use Rattle.lending.specs.declared.lent.Lent.{Lent}
 use Rattle.lending.specs.declared.lent.Spans.the-variants.{Without}
 use Rattle.lending.specs.declared.lent.Checked.{Checked}
 use Rattle.lending.specs.declared.lent.Checked.the-variants as C

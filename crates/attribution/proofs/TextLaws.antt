@@ -1,15 +1,15 @@
 -- Laws of the cells of a written text: an ASCII byte begins a character anew. Assumes nothing.
-use mathlib.Core.Path.{_≡_, refl, sym, ap, _∙_}
+use mathlib.Core.Path.{_≡_, refl, ap}
 use mathlib.Core.Bool.{Bool, true, false, cond, _&&_, _||_}
-use mathlib.Core.List.{List, [], _∷_, _++_, map, append-nil}
-use Prim.Native.Nat.{ℕ, zero, suc, _+_, _-_, _≤_, _<_}
+use mathlib.Core.List.{List, [], _∷_, _++_}
+use Prim.Native.Nat.{ℕ, suc, _+_, _-_, _≤_, _<_}
 use native.Mathlib.Omega.{arith}
-use lib.Dec.{eqb, leb, ltb}
+use lib.Dec.{eqb, ltb}
 use lib.ListN.{length, getD}
-use borrow.Author.Tests.{ne-eqb, lt-leb, lt-ltb, le-ltb}
+use borrow.Author.Tests.{ne-eqb, lt-leb}
 use Rattle.text.specs.Ascii.{inside}
 use Rattle.text.specs.Blanks.{blank1, blank2, blankE280, blank3, blankWidth, blankSize}
-use Rattle.text.specs.Cells.{Cell, cell, sign, bytes, origins, blankAt, moreAfter, cellsFrom, written}
+use Rattle.text.specs.Cells.{Cell, bytes, blankAt, moreAfter, cellsFrom, written}
 
 -- ---- blank characters end before an ASCII byte
 

@@ -5,7 +5,7 @@
 --   Lists ..               the losses ls have been listed: the records from number k on, the bytes from `to` on
 -- Assumes nothing.
 use mathlib.Core.Path.{_≡_}
-use Prim.Native.Nat.{ℕ, zero, suc, _+_, _-_, _*_, _≤_, _<_}
+use Prim.Native.Nat.{ℕ, _+_, _-_, _*_, _≤_, _<_}
 use mathlib.Core.Bool.{Bool, true, false, cond, not, _&&_, _||_}
 use mathlib.Core.List.{List, [], _∷_, _++_}
 use lib.ListN.{length, take, drop}
@@ -17,8 +17,8 @@ use Rattle.attribution_reading.specs.declared.facts.Ends.{Ends}
 use Rattle.attribution_reading.specs.declared.facts.Lead.{Lead}
 use Rattle.attribution_losses.specs.declared.loss.Group.{Group}
 use Rattle.attribution_losses.specs.declared.loss.Counts.{Counts}
-use Rattle.attribution_parts.specs.Parts.{Part, parts}
-use Rattle.attribution_parts.specs.Attribution.{Loss, lossOf, cutLast, runWords, lossesFrom, suffix, isUsed, leading, isDay}
+use Rattle.attribution_parts.specs.Parts.{parts}
+use Rattle.attribution_parts.specs.Attribution.{Loss, lossOf, cutLast, runWords, lossesFrom, suffix, leading, isDay}
 use Rattle.attribution_reading.specs.Places.{Stands}
 use Rattle.attribution_reading.specs.Reads.{FieldsAt, EndsAt}
 

@@ -3,7 +3,6 @@ use crate::loss::put_byte;
 use attribution_reading::facts::is_name;
 use attribution_reading::facts::leading_id;
 use attribution_reading::reader::read_part;
-ghost use mathlib.Core.Path.{_≡_};
 ghost use mathlib.Core.Bool.{cond};
 ghost use mathlib.Core.List.{[]};
 ghost use Prim.Native.Nat.{_+_, _-_, _*_, _≤_, _<_};

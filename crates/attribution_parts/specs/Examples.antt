@@ -1,12 +1,11 @@
 -- Document 01's attributions, the listing of `thread`, and the readings that tell one rule from another. Assumes nothing.
 use mathlib.Core.Path.{_≡_, refl}
 use mathlib.Core.List.{List, [], _∷_}
-use mathlib.Core.Bool.{Bool, true, false}
-use Prim.Native.Nat.{ℕ}
+use mathlib.Core.Bool.{true, false}
 use Prim.Native.String.{String}
 use Rattle.text.specs.Ascii.{ascii, computes as textComputes}
 use Rattle.day.specs.Day.{computes as dayComputes}
-use Rattle.attribution_parts.specs.Parts.{parts, Part, field, text, computes as partsCompute}
+use Rattle.attribution_parts.specs.Parts.{parts, field, text, computes as partsCompute}
 use Rattle.attribution_parts.specs.Attribution.{caption, losses, Loss, computes}
 
 abbrev key : String → Loss

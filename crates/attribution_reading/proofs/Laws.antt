@@ -1,21 +1,21 @@
 -- Laws of values and parts at a place. Assumes nothing.
 use mathlib.Core.Path.{_≡_, refl, sym, ap, _∙_}
-use mathlib.Core.Bool.{Bool, true, false, cond, not, _&&_, _||_, true≢false}
-use mathlib.Core.List.{List, [], _∷_, _++_, append-assoc, append-nil, nil≢cons}
-use Prim.Native.Nat.{ℕ, zero, suc, _+_, _-_, _*_, _≤_, _<_}
-use native.Mathlib.Nat.{add-sub-cancel-left, add-zero}
+use mathlib.Core.Bool.{Bool, true, false, cond, not, _||_, true≢false}
+use mathlib.Core.List.{List, [], _∷_, _++_, nil≢cons}
+use Prim.Native.Nat.{ℕ, zero, suc, _+_, _-_, _≤_, _<_}
+use native.Mathlib.Nat.{add-zero}
 use native.Mathlib.Numerals.{add-one}
 use native.Mathlib.Omega.{arith}
-use lib.Dec.{eqb, ltb}
-use lib.ListN.{length, take, drop, getD, drop-of-length-le, length-drop, List·getD-eq-default}
+use lib.Dec.{eqb}
+use lib.ListN.{length, drop, getD, drop-of-length-le, length-drop, List·getD-eq-default}
 use lib.Seq.{drop-cons, drop-drop, getD-drop}
 use borrow.Author.Tests.{eq-eqb, ne-eqb, eqb-true, lt-ltb, le-ltb, not-true}
 use Rattle.text.specs.Ascii.{inside, toFirst}
 use Rattle.text.proofs.Bytes.{first-stops, first-past}
 use Rattle.attribution_reading.specs.declared.scan.Value.{Value}
 use Rattle.attribution_reading.specs.declared.scan.Place.{Place}
-use Rattle.attribution_parts.specs.Parts.{Part, field, text, isSpace, isQuote, inQuotes, value, valueSize, startsKey, inKey, keySize, partAt, partSize, readAt, sizeAt, parts, here, more}
-use Rattle.attribution_reading.specs.Places.{bytes, RunAt, ValueAt, PartAt, Stands, Scanned, partOf, partWith}
+use Rattle.attribution_parts.specs.Parts.{Part, isSpace, isQuote, inQuotes, value, valueSize, startsKey, inKey, keySize, partAt, partSize, sizeAt, parts, here, more}
+use Rattle.attribution_reading.specs.Places.{bytes, RunAt, ValueAt, PartAt, Stands, Scanned, partOf}
 
 -- ---- values
 

@@ -1,15 +1,14 @@
 -- Laws of the texts of an attribution: the leading id, the last text, and the split, which is one of the last text. Assumes nothing.
 use mathlib.Core.Path.{_≡_, refl, sym, ap, _∙_}
-use mathlib.Core.Bool.{Bool, true, false, cond, not, _&&_, true≢false}
+use mathlib.Core.Bool.{Bool, true, false, cond, _&&_}
 use mathlib.Core.List.{List, [], _∷_, _++_, map, append-nil, append-assoc}
 use Prim.Native.Nat.{ℕ, zero, suc, _+_, _-_, _*_, _≤_, _<_}
-use native.Mathlib.Nat.{add-sub-cancel-left, add-zero, sub-zero, zero-sub, suc-sub-suc}
-use native.Mathlib.Numerals.{add-one}
+use native.Mathlib.Nat.{add-sub-cancel-left, sub-zero, zero-sub, suc-sub-suc}
 use native.Mathlib.Omega.{arith}
 use native.Mathlib.Decide.{decLe}
-use lib.Dec.{eqb, ltb}
+use lib.Dec.{ltb}
 use lib.ListN.{length, take, drop, getD, drop-of-length-le, length-drop, length-append}
-use lib.Seq.{drop-append-le, drop-append-seam, drop-nil, take-nil, drop-drop}
+use lib.Seq.{drop-append-le, drop-nil, take-nil, drop-drop}
 use borrow.Author.Tests.{eq-eqb, ne-eqb, lt-ltb, le-ltb}
 use Rattle.text.specs.Ascii.{isEmpty, digits}
 use Rattle.attribution_reading.specs.declared.scan.Place.{Place}
@@ -17,7 +16,7 @@ use Rattle.attribution_parts.specs.declared.Kind.the-variants.{PostId, Id}
 use Rattle.attribution_reading.specs.declared.facts.Last.{Last}
 use Rattle.attribution_reading.specs.declared.facts.Lead.{Lead}
 use Rattle.attribution_reading.specs.declared.facts.Fields.{Fields}
-use Rattle.attribution_parts.specs.Parts.{Part, field, text, parts, isQuote, inQuotes, keySize, readAt, partAt, partSize}
+use Rattle.attribution_parts.specs.Parts.{Part, parts, isQuote, inQuotes, keySize, readAt, partAt, partSize}
 use Rattle.attribution_parts.specs.Attribution.{valueOf, partNo, isLeading, leading, leadingId, spaced, joined, wordsOf, textsOf, texts, toSuffix, isSuffix, orElse, fieldOf, given, kept, suffix, id}
 use Rattle.attribution_reading.specs.Places.{bytes, partOf, partWith, Stands, Scanned}
 use Rattle.attribution_reading.specs.Reads.{FieldsAt, LeadAt, LastIn, LastAt, LastStep, EndsAt}

@@ -1,7 +1,7 @@
 -- Demand 3 over the whole chain: each pass splits its input, so what it writes stays sound for the post. Assumes nothing.
-use mathlib.Core.List.{List, [], _++_}
+use mathlib.Core.List.{List}
 use Prim.Native.Nat.{ℕ}
-use Rattle.text.specs.Cells.{Cell, cellsOf, bytes, origins}
+use Rattle.text.specs.Cells.{cellsOf, bytes, origins}
 use Rattle.text.specs.Origins.{CopiedByOrigin}
 use Rattle.text.proofs.Copying.{Sound, sound-post, sound-split, copied-by-origin}
 use Rattle.mark_tags.proofs.SplitMarks.{marks-split}

@@ -3,10 +3,9 @@
 use mathlib.Core.Path.{_≡_, refl}
 use mathlib.Core.Bool.{true, false}
 use mathlib.Core.List.{[], _∷_, _++_}
-use lib.ListN.{replicate}
 use Rattle.text.specs.Ascii.{ascii, computes as textComputes}
 use Rattle.text.specs.Writes.{padded}
-use Rattle.lending.specs.declared.lent.Refusal.the-variants.{SizesWrong, NotSeconds}
+use Rattle.lending.specs.declared.lent.Refusal.the-variants.{NotSeconds}
 use Rattle.day.specs.Day.{leap, dayOf, answer, output, numberOfAnswer, computes}
 use Rattle.day.specs.declared.Dated.the-variants.{Done, Refused}
 

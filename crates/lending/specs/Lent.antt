@@ -6,10 +6,10 @@
 --   checked text lent     the first of the refusals 1 to 4 that applies
 -- Assumes nothing.
 use Prim.Native.Nat.{ℕ, _+_, _*_, _/_}
-use mathlib.Core.Bool.{Bool, true, false, cond, not, _&&_, _||_}
+use mathlib.Core.Bool.{Bool, true, false, cond, _&&_, _||_}
 use mathlib.Core.List.{List, [], _∷_}
 use lib.ListN.{length}
-use lib.Dec.{eqb, leb, ltb}
+use lib.Dec.{eqb, leb}
 use Rattle.lending.specs.Utf8.{utf8}
 use Rattle.lending.specs.declared.lent.Refusal.{Refusal}
 use Rattle.lending.specs.declared.lent.Refusal.the-variants.{TextTooLong, SizesWrong, NotUtf8, ZeroOrReturn, TooDeep, NoSpace, TooManyLosses, LossBytesShort, NotSeconds}

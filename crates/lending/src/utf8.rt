@@ -3,7 +3,7 @@ use text::scan::byte_at;
 use text::scan::is_inside;
 ghost use mathlib.Core.Path.{_≡_};
 ghost use mathlib.Core.Bool.{_&&_};
-ghost use Prim.Native.Nat.{_≤_, _<_};
+ghost use Prim.Native.Nat.{_<_};
 ghost use lib.ListN.{length, drop};
 ghost use Rattle.text.specs.Ascii.{inside};
 ghost use Rattle.lending.specs.Utf8.{tail, utf8-3, utf8-4, size, charSize, utf8};

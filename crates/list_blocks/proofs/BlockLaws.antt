@@ -5,16 +5,16 @@ use mathlib.Core.List.{List, [], _∷_, _++_, map, append-nil, append-assoc}
 use Prim.Native.Nat.{ℕ, zero, suc, _+_, _≤_, _<_}
 use native.Mathlib.Numerals.{add-one}
 use native.Mathlib.Omega.{arith}
-use lib.ListN.{length, take, drop, getD, replicate, drop-of-length-le, length-take}
+use lib.ListN.{length, take, getD, replicate, drop-of-length-le, length-take}
 use lib.Seq.{slice-cons}
 use Rattle.text.specs.Ascii.{isEmpty}
-use Rattle.text.specs.Cells.{Cell, cell, cells, part, feed}
+use Rattle.text.specs.Cells.{Cell, cells, part, feed}
 use Rattle.text.specs.Lines.{trimStart, trimOnto, trimEnd, trim, lines, followed, joined}
 use Rattle.text.specs.Writes.{Appends}
-use Rattle.text.proofs.Writing.{appends-none, appends-then, part-none, part-cons, Writing, start, more, done}
+use Rattle.text.proofs.Writing.{appends-none, appends-then, part-none, part-cons, Writing, more, done}
 use Rattle.list_blocks.specs.Blocks.{space, marker, trimItem, laterLine, indented, marked, itemText, itemTexts, leadOnto, block, trimmed, between, headOr, partsIn, Rises, heldBack, Blocked}
 use Rattle.list_blocks.proofs.ItemLaws as I
-use Rattle.list_blocks.proofs.ItemLaws.{Solid, Good, Ended, nothing, something, ended, solid-some, solid-same, solid-append, good, lines-item, trimItem-lines, solid-joined}
+use Rattle.list_blocks.proofs.ItemLaws.{Solid, Good, Ended, nothing, something, ended, solid-some, solid-append, good, lines-item, trimItem-lines, solid-joined}
 
 -- ---- ends
 

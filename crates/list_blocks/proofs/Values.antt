@@ -1,12 +1,12 @@
 -- Laws of reading a list tag: the value behind `[list=`, and the first two bytes. Assumes nothing.
 use mathlib.Core.Path.{_≡_, refl, sym, ap, _∙_}
 use mathlib.Core.Bool.{Bool, true, false, cond, _&&_, true≢false}
-use mathlib.Core.List.{List, [], _∷_, _++_}
-use Prim.Native.Nat.{ℕ, zero, suc, _+_, _-_, _%_, _≤_, _<_}
+use mathlib.Core.List.{List, [], _∷_}
+use Prim.Native.Nat.{ℕ, suc, _+_, _-_, _%_, _≤_, _<_}
 use native.Mathlib.Nat.{le-of-suc-le-suc, not-suc-le-zero}
 use native.Mathlib.Numerals.{add-one}
 use native.Mathlib.Omega.{arith}
-use lib.ListN.{length, take, drop, getD, drop-of-length-le, length-drop}
+use lib.ListN.{length, drop, getD, drop-of-length-le, length-drop}
 use lib.Seq.{drop-cons}
 use lib.Dec.{eqb, leb, ltb}
 use borrow.Author.Tests.{eq-eqb, ne-eqb, lt-ltb, le-ltb, eqb-true, eqb-false, leb-true}
@@ -14,8 +14,6 @@ use Rattle.text.specs.Ascii.{ascii, inside, small, begins, toFirst, toBracket, 
 use Rattle.text.specs.Cells.{Cell, cell, cells, bytes}
 use Rattle.text.specs.Lines.{trimStart, trimOnto, trimEnd, trim}
 use Rattle.text.proofs.Writing.{cells-at, cells-le, cells-short}
-use Rattle.text.proofs.Bytes.{first-within}
-use Rattle.list_blocks.specs.declared.tag.Tag.{Tag}
 use Rattle.list_blocks.specs.declared.tag.Tag.the-variants.{Opener, Item, Closer, Plain}
 use Rattle.list_blocks.specs.Tags.{valueOf, isOne, valued, tagAt, Skips}
 

@@ -7,7 +7,7 @@
 --   listsNeed x  the greatest number of bytes of all open contents after any step
 -- Assumes nothing.
 use Prim.Native.Nat.{ℕ, _+_, max}
-use mathlib.Core.Bool.{Bool, true, false, cond, not, _||_}
+use mathlib.Core.Bool.{Bool, false, cond, not, _||_}
 use mathlib.Core.List.{List, [], _∷_, _++_}
 use lib.ListN.{length}
 use Rattle.text.specs.Ascii.{isEmpty}

@@ -1,8 +1,8 @@
 -- Closing the innermost list, from slices that hold a state to slices that hold the next. Assumes nothing.
 use mathlib.Core.Path.{_≡_, refl, sym, ap, _∙_}
-use mathlib.Core.Bool.{Bool, true, false, cond, not}
-use mathlib.Core.List.{List, [], _∷_, _++_, append-nil, append-assoc}
-use Prim.Native.Nat.{ℕ, zero, suc, _+_, _-_, _%_, _≤_, _<_}
+use mathlib.Core.Bool.{Bool, not}
+use mathlib.Core.List.{List, [], _∷_, _++_, append-assoc}
+use Prim.Native.Nat.{ℕ, _+_, _-_, _%_, _≤_, _<_}
 use native.Mathlib.Omega.{arith}
 use native.Mathlib.Decide.{decLe}
 use lib.ListN.{length, take, drop, getD, length-append}
@@ -14,10 +14,9 @@ use Rattle.text.proofs.Writing.{holds-fits}
 use Rattle.text.proofs.Areas.{area-length}
 use Rattle.list_blocks.specs.Blocks.{between}
 use Rattle.list_blocks.specs.Lists.{Open, State, closing, close}
-use Rattle.list_steps.specs.Standing.{strung, outers, contents, kindOf, frames, Stands, Steps, Ready, closingAt, Framed, closeInner}
+use Rattle.list_steps.specs.Standing.{strung, outers, contents, frames, Stands, Steps, Ready, closingAt, Framed, closeInner}
 use Rattle.list_steps.proofs.Tables.{kind-second, table-front, table-size}
 use Rattle.list_steps.proofs.Standings.{stands-end, stands-text, frame-parent, frame-kind, frame-start, frame-here, framed-here, closing-is}
-use Rattle.list_blocks.proofs.Values.{cells-length}
 
 -- ---- the table stays, where nothing behind `end` changes
 

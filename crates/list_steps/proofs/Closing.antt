@@ -1,11 +1,11 @@
 -- Laws of closing a list by its table. Assumes nothing.
 use mathlib.Core.Path.{_≡_, refl, sym, ap, _∙_}
-use mathlib.Core.Bool.{Bool, true, false, cond, not, _&&_, _||_}
+use mathlib.Core.Bool.{Bool, false, cond, not, _||_}
 use mathlib.Core.List.{List, [], _∷_, _++_}
-use Prim.Native.Nat.{ℕ, zero, suc, _+_, _-_, _%_, _≤_, _<_}
+use Prim.Native.Nat.{ℕ, _+_, _-_, _%_, _≤_, _<_}
 use native.Mathlib.Omega.{arith}
 use lib.ListN.{length, getD, replicate}
-use lib.Dec.{eqb, leb, ltb}
+use lib.Dec.{eqb, leb}
 use borrow.Author.Tests.{lt-ltb, le-ltb}
 use Rattle.text.specs.Ascii.{isEmpty}
 use Rattle.text.specs.Cells.{Cell, cell, cells, part, feed}
@@ -14,7 +14,7 @@ use Rattle.text.specs.Writes.{Appends}
 use Rattle.text.proofs.Writing.{appends-then, part-end, part-snoc}
 use Rattle.list_blocks.specs.Blocks.{block, between, partsIn}
 use Rattle.list_blocks.specs.Lists.{endsInFeed}
-use Rattle.list_steps.specs.Standing.{outerAt, feedAt, feedsBefore, closingAt}
+use Rattle.list_steps.specs.Standing.{feedAt, feedsBefore, closingAt}
 
 -- ---- the line feed before an inner block
 

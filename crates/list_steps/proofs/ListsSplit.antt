@@ -9,7 +9,7 @@ use Rattle.text.specs.Cells.{Cell, feed, sign}
 use Rattle.text.specs.Lines.{trimEnd, lines, joined}
 use Rattle.text.specs.Decimal.{decimal}
 use Rattle.text.specs.Split.{Split, done, wrote, Keeps}
-use Rattle.text.proofs.SplitLaws.{append, keeps-all, takes-all, after, behind, taking, copying}
+use Rattle.text.proofs.SplitLaws.{append, keeps-all, after, behind, taking, copying}
 use Rattle.text.proofs.SplitLaws as T
 use Rattle.text.proofs.SplitLaws.{trimEnd-keeps, trim-keeps, lines-keeps, Each, none, each, each-map, joined-keeps}
 use Rattle.list_blocks.specs.declared.tag.Tag.{Tag}

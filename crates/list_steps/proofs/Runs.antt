@@ -1,8 +1,8 @@
 -- A run of the list machine in the slices. Assumes nothing.
 use mathlib.Core.Path.{_≡_, refl, sym, ap, _∙_}
-use mathlib.Core.Bool.{Bool, true, false, cond, not, _&&_, true≢false}
-use mathlib.Core.List.{List, [], _∷_, _++_, append-nil, append-assoc}
-use Prim.Native.Nat.{ℕ, zero, suc, _+_, _-_, _≤_, _<_, max}
+use mathlib.Core.Bool.{Bool, true, false, cond, _&&_}
+use mathlib.Core.List.{List, [], _∷_, _++_, append-nil}
+use Prim.Native.Nat.{ℕ, suc, _+_, _-_, _≤_, _<_, max}
 use native.Mathlib.Omega.{arith}
 use native.Mathlib.Decide.{decLe}
 use lib.ListN.{length, take, drop, length-append, length-drop, length-map}
@@ -10,23 +10,22 @@ use lib.Seq.{take-at, drop-at, take-take, drop-drop, length-slice, length-take-l
 use lib.Dec.{ltb}
 use borrow.Author.Tests.{ltb-true}
 use Rattle.text.specs.Ascii.{ascii, begins, is, toFirst, toBracket}
-use Rattle.text.specs.Cells.{Cell, cell, cells, bytes, part}
+use Rattle.text.specs.Cells.{Cell, cells, bytes, part}
 use Rattle.text.specs.Lines.{trim}
-use Rattle.text.specs.Writes.{Holds}
 use Rattle.text.proofs.Writing.{cells-le, part-end}
 use Rattle.text.proofs.Areas.{area-length}
 use Rattle.list_blocks.specs.declared.tag.Tag.{Tag}
 use Rattle.list_blocks.specs.declared.tag.Tag.the-variants.{Opener, Item, Closer, Plain}
 use Rattle.list_blocks.specs.Tags.{Token, tagAt, valued, isOne, valueOf, tokenOf, restOf, tokens}
 use Rattle.list_blocks.specs.Blocks.{between}
-use Rattle.list_blocks.specs.Lists.{Open, State, nothing, close, started, closed, step, finish, run, lists, held, finishNeed, runNeed, listsNeed}
+use Rattle.list_blocks.specs.Lists.{Open, State, nothing, started, closed, step, finish, run, lists, held, finishNeed, runNeed, listsNeed}
 use Rattle.list_steps.specs.Standing.{outers, contents, frames, Stands, Steps, Ready, closeInner, kept, stepBy, restWith, takeBy, pushed, Running, Passed}
 use Rattle.list_steps.proofs.Needs.{tokens-skip, outers-held, need-least}
 use Rattle.list_steps.proofs.Texts.{tail-bytes, more-run, more-need, take-with, rest-size, rest-least}
 use Rattle.list_steps.proofs.Standings.{stands-end, stands-text}
 use Rattle.list_blocks.proofs.Values.{begins-long, cells-bytes}
 use Rattle.list_steps.proofs.Closes.{no-table}
-use Rattle.text.proofs.Sources.{cells-taken, cells-sub, part-take}
+use Rattle.text.proofs.Sources.{cells-sub, part-take}
 use Rattle.list_steps.proofs.Steppings.{some-table}
 
 -- ---- sizes

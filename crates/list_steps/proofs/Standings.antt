@@ -1,22 +1,21 @@
 -- Slices that hold a state with an open list: what its frame in the table says, and what it gives when it is closed. Assumes nothing.
 use mathlib.Core.Path.{_≡_, refl, sym, ap, _∙_}
-use mathlib.Core.Bool.{Bool, true, false, cond, not, _&&_, _||_, true≢false}
-use mathlib.Core.List.{List, [], _∷_, _++_, append-nil, append-assoc}
-use Prim.Native.Nat.{ℕ, zero, suc, _+_, _-_, _%_, _≤_, _<_}
+use mathlib.Core.Bool.{Bool, true, false, cond, not, _&&_, _||_}
+use mathlib.Core.List.{List, [], _∷_, _++_, append-assoc}
+use Prim.Native.Nat.{ℕ, suc, _+_, _-_, _%_, _≤_, _<_}
 use native.Mathlib.Omega.{arith}
 use lib.ListN.{length, take, drop, getD, replicate, length-append, List·getD-append}
-use lib.Seq.{take-at, drop-at, take-take, length-take-le, getD-append-add}
-use lib.Dec.{eqb, leb, ltb}
+use lib.Seq.{drop-at, take-take, getD-append-add}
+use lib.Dec.{eqb, leb}
 use borrow.Author.Tests.{lt-ltb, le-ltb, eq-eqb, ne-eqb}
 use Rattle.text.specs.Ascii.{isEmpty}
 use Rattle.text.specs.Cells.{Cell, cells, part, feed}
-use Rattle.text.specs.Writes.{Holds}
 use Rattle.text.proofs.Writing.{holds-fits, cells-le}
 use Rattle.text.proofs.Areas.{area-length}
 use Rattle.list_blocks.specs.Blocks.{block, between, partsIn, Rises}
-use Rattle.list_blocks.specs.Lists.{Open, State, endsInFeed, feedBefore, placed, closing}
-use Rattle.list_steps.specs.Standing.{strung, outers, contents, startsFrom, kindOf, Frames, framed, frames, Stands, outerAt, feedAt, feedsBefore, closingAt, Framed}
-use Rattle.list_steps.proofs.Tables.{part-left, part-right, part-split, starts-head, starts-length, starts-last, starts-rise, starts-parts, kind-ordered, kind-second, table-behind, table-size, table-read, table-at, table-front}
+use Rattle.list_blocks.specs.Lists.{Open, State, endsInFeed, feedBefore, closing}
+use Rattle.list_steps.specs.Standing.{strung, outers, contents, startsFrom, kindOf, Frames, frames, Stands, outerAt, feedAt, feedsBefore, closingAt, Framed}
+use Rattle.list_steps.proofs.Tables.{part-left, starts-length, starts-last, starts-rise, starts-parts, kind-ordered, kind-second, table-behind, table-size, table-read, table-at}
 
 -- ---- the contents
 

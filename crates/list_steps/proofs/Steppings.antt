@@ -1,23 +1,23 @@
 -- The steps of the list machine, from slices that hold a state to slices that hold the next. Assumes nothing.
 use mathlib.Core.Path.{_≡_, refl, sym, ap, _∙_}
-use mathlib.Core.Bool.{Bool, true, false, cond, not}
+use mathlib.Core.Bool.{Bool, false}
 use mathlib.Core.List.{List, [], _∷_, _++_, append-nil, append-assoc}
 use Prim.Native.Nat.{ℕ, zero, suc, _+_, _-_, _≤_, _<_}
 use native.Mathlib.Nat.{le-of-suc-le-suc, not-suc-le-zero}
 use native.Mathlib.Omega.{arith}
-use lib.ListN.{length, take, drop, getD, set, length-append, length-set}
+use lib.ListN.{length, take, drop, set, length-append, length-set}
 use lib.Seq.{length-slice}
 use Rattle.text.proofs.Sources.{part-take}
 use Rattle.text.specs.Cells.{Cell, cell, cells, part}
-use Rattle.text.specs.Writes.{Holds, AppendsIn}
+use Rattle.text.specs.Writes.{AppendsIn}
 use Rattle.list_blocks.specs.declared.tag.Tag.{Tag}
-use Rattle.list_blocks.specs.declared.tag.Tag.the-variants.{Opener, Item, Closer, Plain}
+use Rattle.list_blocks.specs.declared.tag.Tag.the-variants.{Opener, Item, Closer}
 use Rattle.list_blocks.specs.Tags.{restOf}
 use Rattle.list_blocks.specs.Blocks.{between}
 use Rattle.list_blocks.specs.Lists.{Open, State, started, closed}
 use Rattle.list_steps.specs.Standing.{strung, outers, contents, startsFrom, kindOf, frames, Stands, Steps, Ready, closeInner, kept, stepBy, pushed}
 use Rattle.list_steps.proofs.ListsSplit.{strung-snoc}
-use Rattle.list_steps.proofs.Tables.{starts-snoc, starts-length, table-push, table-size}
+use Rattle.list_steps.proofs.Tables.{starts-snoc, table-push, table-size}
 use Rattle.list_steps.proofs.Standings.{stands-end, at-is}
 use Rattle.list_steps.proofs.Closes.{table-stays, no-table, ready-framed}
 

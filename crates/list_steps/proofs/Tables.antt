@@ -1,15 +1,14 @@
 -- Laws of the table: where a list's parts begin, and what the slices hold at these places. Assumes nothing.
 use mathlib.Core.Path.{_≡_, refl, sym, ap, _∙_}
-use mathlib.Core.Bool.{Bool, true, false, cond, not, _&&_, _||_}
-use mathlib.Core.List.{List, [], _∷_, _++_, append-nil, append-assoc}
-use Prim.Native.Nat.{ℕ, zero, suc, _+_, _-_, _%_, _≤_, _<_}
+use mathlib.Core.Bool.{Bool, true, false}
+use mathlib.Core.List.{List, [], _∷_, _++_, append-assoc}
+use Prim.Native.Nat.{ℕ, suc, _+_, _-_, _%_, _≤_, _<_}
 use native.Mathlib.Numerals.{add-one}
 use native.Mathlib.Omega.{arith}
-use lib.ListN.{length, take, drop, getD, set, replicate, length-append, length-set, List·getD-append}
-use lib.Seq.{take-at, drop-at, take-add, take-take, drop-drop, drop-append-le, getD-at, getD-take, getD-drop, length-take-le, length-slice, getD-append-add, take-set-le, take-suc-set}
-use lib.Dec.{eqb, leb, ltb}
-use borrow.Author.Tests.{lt-ltb, le-ltb, eq-eqb, ne-eqb}
-use Rattle.text.specs.Cells.{Cell, cells, part, feed}
+use lib.ListN.{length, take, drop, getD, set, length-append}
+use lib.Seq.{take-at, drop-at, take-add, take-take, drop-drop, drop-append-le, getD-take, getD-drop, length-take-le, length-slice, getD-append-add, take-suc-set}
+use lib.Dec.{eqb, leb}
+use Rattle.text.specs.Cells.{Cell, part}
 use Rattle.list_blocks.specs.Blocks.{between, headOr, partsIn, Rises}
 use Rattle.list_steps.specs.Standing.{strung, startsFrom, kindOf}
 

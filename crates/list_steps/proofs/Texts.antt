@@ -1,8 +1,8 @@
 -- Laws of text before the next `[`: its cells are taken one by one or all at once. Assumes nothing.
 use mathlib.Core.Path.{_≡_, refl, sym, ap, _∙_}
 use mathlib.Core.Bool.{Bool, true, false, cond}
-use mathlib.Core.List.{List, [], _∷_, _++_, append-nil, append-assoc}
-use Prim.Native.Nat.{ℕ, zero, suc, _+_, _≤_, _<_, max}
+use mathlib.Core.List.{List, [], _∷_, append-nil, append-assoc}
+use Prim.Native.Nat.{ℕ, zero, suc, _+_, _≤_, _<_}
 use native.Mathlib.Nat.{le-of-suc-le-suc, not-suc-le-zero}
 use native.Mathlib.Numerals.{add-one}
 use native.Mathlib.Omega.{arith}
@@ -14,8 +14,8 @@ use Rattle.text.specs.Cells.{Cell, bytes}
 use Rattle.text.proofs.Bytes.{first-within}
 use Rattle.list_blocks.specs.declared.tag.Tag.{Tag}
 use Rattle.list_blocks.specs.declared.tag.Tag.the-variants.{Opener, Item, Closer, Plain}
-use Rattle.list_blocks.specs.Tags.{Token, text, tagAt, restOf, tokens}
-use Rattle.list_blocks.specs.Lists.{State, step, run, held, runNeed}
+use Rattle.list_blocks.specs.Tags.{Token, text, restOf, tokens}
+use Rattle.list_blocks.specs.Lists.{State, step, run, runNeed}
 use Rattle.list_blocks.proofs.Values.{tag-none}
 use Rattle.list_steps.specs.Standing.{kept, stepBy, restWith, takeBy}
 use Rattle.list_steps.proofs.Needs.{need-least}

@@ -4,20 +4,20 @@ use mathlib.Core.Bool.{Bool, true, false, cond}
 use Prim.Native.Nat.{ℕ, suc, _+_, _-_, _≤_, _<_, min}
 use native.Mathlib.Numerals.{add-one}
 use native.Mathlib.Omega.{arith}
-use mathlib.Core.List.{List, [], _∷_, _++_, map, append-assoc, append-nil}
+use mathlib.Core.List.{List, [], _∷_, _++_, map}
 use lib.ListN.{length, take, drop, getD, drop-of-length-le, length-drop}
 use lib.Seq.{drop-cons, take-all, take-nil, length-take-le, getD-take}
 use native.Mathlib.Decide.{decLe}
 use lib.Dec.{eqb}
 use borrow.Author.Tests.{eq-eqb}
-use Rattle.text.specs.Ascii.{ascii, is}
-use Rattle.text.specs.Cells.{Cell, cells, sign}
+use Rattle.text.specs.Ascii.{ascii}
+use Rattle.text.specs.Cells.{Cell, sign}
 use Rattle.text.specs.Decimal.{decimal}
 use Rattle.text.specs.Writes.{Appends}
 use Rattle.text.proofs.Writing.{appends-then}
 use Rattle.losses.specs.declared.Loss.{Loss}
 use Rattle.losses.specs.Records.{noLoss}
-use Rattle.listing.specs.Listing.{escapedByte, escaped, copied, line, field, loss, lossLines, sizes, counts, listing, Adds}
+use Rattle.listing.specs.Listing.{escapedByte, escaped, copied, line, field, loss, lossLines, sizes, counts, listing}
 
 -- ---- bytes appended one behind the other
 

@@ -1,7 +1,6 @@
 -- Worked facts about the listing, proved by computation. Assumes nothing.
 use mathlib.Core.Path.{_≡_, refl}
-use mathlib.Core.List.{List, [], _∷_}
-use Prim.Native.Nat.{ℕ}
+use mathlib.Core.List.{[], _∷_}
 use Rattle.text.specs.Ascii.{ascii}
 use Rattle.listing.specs.Listing.{escaped, copied, computes}
 

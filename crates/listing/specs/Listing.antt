@@ -9,8 +9,8 @@
 --   listing ..      the listing of a converted post: its text, origins, loss records and loss bytes
 --   Adds .. s       the bytes s have been appended to a pair of slices, with no origins
 -- Assumes nothing.
-use Prim.Native.Nat.{ℕ, suc, _+_, _-_}
-use mathlib.Core.Bool.{Bool, cond}
+use Prim.Native.Nat.{ℕ, _+_, _-_}
+use mathlib.Core.Bool.{cond}
 use mathlib.Core.List.{List, [], _∷_, _++_, map}
 use lib.ListN.{length, take, drop}
 use lib.Dec.{eqb}

@@ -1,6 +1,6 @@
 -- Laws of a whole call. Assumes nothing.
-use mathlib.Core.Path.{_≡_, refl, sym, ap, _∙_}
-use mathlib.Core.Bool.{Bool, true, false, cond}
+use mathlib.Core.Path.{_≡_, sym, ap, _∙_}
+use mathlib.Core.Bool.{true, false}
 use mathlib.Core.List.{List, []}
 use Prim.Native.Nat.{ℕ, _+_, _-_, _≤_, _<_}
 use native.Mathlib.Omega.{arith}
@@ -18,11 +18,10 @@ use Rattle.list_blocks.specs.Lists.{lists, listsNeed}
 use Rattle.list_steps.specs.Standing.{Passed}
 use Rattle.lending.specs.Lent.{checked}
 use Rattle.lending.specs.declared.lent.Refusal.{Refusal}
-use Rattle.lending.specs.declared.lent.Lent.{Lent}
 use Rattle.lending.specs.declared.lent.Spans.the-variants.{Without}
 use Rattle.lending.specs.declared.lent.Checked.{Checked}
 use Rattle.lending.specs.declared.lent.Checked.the-variants as C
-use Rattle.lists.specs.Calls.{converted, answerBy, answered, textOf, Called, Converted}
+use Rattle.lists.specs.Calls.{converted, answerBy, answered, Called, Converted}
 use Rattle.list_steps.proofs.Needs.{lists-fits}
 
 pub called-deep : (text : List ℕ) (y : List Cell) (m k r : ℕ) (l : Listed) {out plain : List ℕ} → y ≡ cellsOf text → tooDeep y ≡ ltb 18446744073709551614 r → 18446744073709551614 < r

@@ -14,11 +14,9 @@ use text::write::lay_part;
 ghost use mathlib.Core.Path.{_≡_};
 ghost use Prim.Native.Nat.{_+_, _-_, _*_, _≤_};
 ghost use mathlib.Core.List.{[]};
-ghost use lib.ListN.{length, take, drop};
-ghost use Rattle.text.specs.Cells.{cells, cellsOf};
+ghost use lib.ListN.{length};
 ghost use Rattle.text.specs.Writes.{LaidOut};
 ghost use Rattle.lists.specs.Calls.{Called, Converted};
-ghost use Rattle.list_blocks.specs.Tags.{tooDeep};
 ghost use Rattle.lists.specs.declared.Listed.the-variants.{Done, Refused};
 
 // The length of the text, or why there is none.

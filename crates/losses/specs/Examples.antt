@@ -1,7 +1,6 @@
 -- Lent records by computation. Assumes nothing.
 use mathlib.Core.Path.{_≡_, refl}
-use mathlib.Core.List.{List, [], _∷_}
-use Rattle.losses.specs.declared.Loss.{Loss}
+use mathlib.Core.List.{[], _∷_}
 use Rattle.losses.specs.Records.{noLoss, recordsLent, computes}
 
 -- two records of three are used

@@ -1,12 +1,12 @@
 -- Kinds as a mask: one bit for each. Assumes nothing.
 use mathlib.Core.Path.{_≡_, refl}
-use mathlib.Core.Bool.{Bool, true, false, not, cond}
-use Prim.Native.Nat.{ℕ, zero, suc, _≤_, _<_}
+use mathlib.Core.Bool.{not}
+use Prim.Native.Nat.{ℕ, zero, suc, _<_}
 use native.Mathlib.Omega.{arith}
 use lib.Dec.{eqb}
 use lib.Bits.{bitAnd, bitOr}
 use lib.Count.{ones, onesIn}
-use Rattle.mark_tags.specs.Marks.{Kinds, kinds, has, add}
+use Rattle.mark_tags.specs.Marks.{has, add}
 use Rattle.mark_tags.specs.Flat.{kindNumbered, kindsOf, bitOf}
 use Rattle.mark_tags.proofs.Depth.{count}
 

@@ -1,6 +1,6 @@
 -- Laws of merging the items from the left. Assumes nothing.
 use mathlib.Core.Path.{_≡_, refl, sym, ap, ap₂, _∙_}
-use mathlib.Core.Bool.{Bool, true, false, cond, not}
+use mathlib.Core.Bool.{true, false}
 use mathlib.Core.Logic.{_⊎_, inl, inr}
 use mathlib.Core.List.{List, [], _∷_, _++_, append-nil, append-assoc}
 use Prim.Native.Nat.{ℕ, zero, suc, _+_, _-_, _*_, _%_, _≤_, _<_}
@@ -8,14 +8,14 @@ use native.Mathlib.Numerals.{add-one, sub-one}
 use native.Mathlib.Nat.{zero-add, sub-zero}
 use native.Mathlib.Omega.{arith}
 use native.Mathlib.Decide.{decLe}
-use lib.Dec.{eqb, ltb, leb}
+use lib.Dec.{leb}
 use lib.Bits.{bitAnd, bitOr}
-use lib.ListN.{length, take, drop, getD, set, length-set}
+use lib.ListN.{length, take, getD, set, length-set}
 use lib.Seq.{getD-set-same, getD-set-other, take-take}
-use borrow.Author.Tests.{le-leb, lt-leb, eq-eqb, ne-eqb}
+use borrow.Author.Tests.{le-leb, lt-leb, ne-eqb}
 use Rattle.text.specs.Cells.{Cell, part}
-use Rattle.mark_tags.specs.Marks.{Kind, Kinds, kinds, no-kinds, has, add}
-use Rattle.mark_tags.specs.Flat.{Flat, piece, vanish, leave, enter, begun, Outer, entered, leaving, outside, rest, merged, flatOf, codeAt, boundAt, flatAt, flats, kindNumbered, bitOf, kindsOf, outersOf, MergedItem, Recodes, Tagged, Itemed, Bounded, settled, flatMarks}
+use Rattle.mark_tags.specs.Marks.{Kind, Kinds, no-kinds, has, add}
+use Rattle.mark_tags.specs.Flat.{Flat, piece, vanish, leave, enter, Outer, entered, leaving, outside, rest, merged, flatOf, boundAt, flatAt, flats, kindNumbered, bitOf, kindsOf, outersOf, MergedItem, Recodes, Tagged, Itemed, Bounded, settled, flatMarks}
 use Rattle.mark_items.proofs.Tabling.{flats-same, flats-more}
 use Rattle.mark_items.proofs.Settling.{flat-leave, flat-gone, flat-enter, flat-begun, recoded, flat-code, flatAt-by, take-same}
 use Rattle.mark_items.proofs.TagReading.{same-bound}

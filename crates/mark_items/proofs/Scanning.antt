@@ -1,7 +1,6 @@
 -- Laws of reading tokens from the left: the loop stands at a place, the piece that is being read is in front. Assumes nothing.
 use mathlib.Core.Path.{_≡_, refl, sym, ap, _∙_}
-use mathlib.Core.Bool.{Bool, true, false, cond, _&&_, true≢false}
-use mathlib.Core.Logic.{_⊎_, inl, inr}
+use mathlib.Core.Bool.{Bool, true, false, cond, _&&_}
 use mathlib.Core.Option.{Option, none, some}
 use mathlib.Core.List.{List, [], _∷_, _++_, append-nil, append-assoc}
 use Prim.Native.Nat.{ℕ, zero, suc, _+_, _-_, _%_, _≤_, _<_}
@@ -9,15 +8,15 @@ use native.Mathlib.Numerals.{add-one}
 use native.Mathlib.Nat.{le-of-suc-le-suc, not-suc-le-zero}
 use native.Mathlib.Omega.{arith}
 use native.Mathlib.Decide.{decLe}
-use lib.Dec.{eqb, eqb→eq, T}
-use lib.ListN.{length, take, drop, getD, drop-of-length-le, List·getD-eq-default, length-map, length-take, length-drop}
+use lib.Dec.{eqb}
+use lib.ListN.{length, take, drop, getD, List·getD-eq-default}
 use lib.Seq.{drop-cons, drop-drop, drop-append-le, drop-at, take-suc, take-add, length-take-le}
 use borrow.Author.Tests.{eqb-true}
 use Rattle.text.specs.Ascii.{is, toFirst}
 use Rattle.text.specs.Cells.{Cell, bytes, part}
-use Rattle.mark_tags.specs.Marks.{Kind, bold, italic, underline, strike, same, Tag, opener, closer, kindOf, tagOf, tagOfBytes, tagAt, more, Tokens, last, cut, onto, token, scan, ends}
+use Rattle.mark_tags.specs.Marks.{Kind, bold, italic, underline, strike, Tag, opener, closer, kindOf, tagOf, tagOfBytes, tagAt, more, Tokens, last, cut, onto, scan}
 use Rattle.mark_tags.specs.Flat.{kindNumber, kindNumbered, tagNumber}
-use Rattle.mark_tags.proofs.TagNumbers.{kind-small, kind-numbered}
+use Rattle.mark_tags.proofs.TagNumbers.{kind-small}
 use Rattle.mark_pieces.proofs.Pieces.{d}
 
 -- ---- tags and their numbers

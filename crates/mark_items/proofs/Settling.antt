@@ -1,19 +1,17 @@
 -- Laws of settling the items from the right. Assumes nothing.
-use mathlib.Core.Path.{_≡_, refl, sym, ap, ap₂, _∙_}
-use mathlib.Core.Bool.{Bool, true, false, cond}
-use mathlib.Core.List.{List, [], _∷_, _++_}
+use mathlib.Core.Path.{_≡_, refl, sym, ap, _∙_}
+use mathlib.Core.List.{List, _∷_}
 use Prim.Native.Nat.{ℕ, zero, suc, _+_, _-_, _*_, _%_, _≤_, _<_}
 use native.Mathlib.Numerals.{add-one, sub-one}
 use native.Mathlib.Omega.{arith}
 use native.Mathlib.Decide.{decLe}
-use lib.Dec.{eqb, ltb}
-use lib.ListN.{length, take, drop, getD, set, length-take}
+use lib.ListN.{length, take, getD, set, length-take}
 use lib.Seq.{getD-set-same, getD-set-other, ext-getD, getD-take}
-use borrow.Author.Tests.{lt-ltb, le-ltb, eq-eqb, ne-eqb}
+use borrow.Author.Tests.{lt-ltb, le-ltb, ne-eqb}
 use Rattle.text.specs.Cells.{Cell, part}
 use Rattle.mark_tags.specs.Marks.{Kind}
-use Rattle.mark_tags.specs.Flat.{Flat, piece, vanish, leave, enter, begun, Settled, settledOpen, settle, settled, flatOf, codeAt, boundAt, flatAt, flats, kindNumbered, SettledItem, Recodes}
-use Rattle.mark_items.proofs.Tabling.{flats-same, flatAt-same}
+use Rattle.mark_tags.specs.Flat.{Flat, vanish, leave, enter, begun, Settled, settledOpen, settle, settled, flatOf, codeAt, boundAt, flatAt, flats, kindNumbered, SettledItem, Recodes}
+use Rattle.mark_items.proofs.Tabling.{flats-same}
 
 -- ---- an item by its code
 

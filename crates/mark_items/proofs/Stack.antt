@@ -1,16 +1,16 @@
 -- Laws of the stack of open kinds, held in numbers. Assumes nothing.
 use mathlib.Core.Path.{_≡_, refl, sym, ap, ap₂, _∙_}
-use mathlib.Core.Bool.{Bool, true, false, cond, true≢false, false≢true}
+use mathlib.Core.Bool.{Bool, true, false, cond, false≢true}
 use mathlib.Core.List.{List, [], _∷_}
 use Prim.Native.Nat.{ℕ, zero, suc, _+_, _-_, _*_, _%_, _≤_, _<_}
 use native.Mathlib.Numerals.{add-one, sub-one}
 use native.Mathlib.Omega.{arith}
 use native.Mathlib.Decide.{decLe}
-use lib.Dec.{eqb, ltb}
-use lib.ListN.{length, take, getD, set}
+use lib.Dec.{eqb}
+use lib.ListN.{length, getD, set}
 use lib.Seq.{getD-set-same, getD-set-other, take-set-le}
 use borrow.Author.Tests.{lt-ltb, le-ltb, eq-eqb, ne-eqb}
-use Rattle.mark_tags.specs.Marks.{Kind, bold, italic, underline, strike, same, Tag, opener, closer, ends, after}
+use Rattle.mark_tags.specs.Marks.{Kind, same, opener, closer, ends, after}
 use Rattle.mark_tags.specs.Flat.{kindNumbered, numberedTag, codeOf, stackOf, Stacked}
 
 abbrev tailOf : List Kind → List Kind

@@ -1,7 +1,7 @@
 -- Laws of the items held in numbers, and of the loop that reads a text's tags into them. Assumes nothing.
 use mathlib.Core.Path.{_≡_, refl, sym, ap, ap₂, _∙_}
-use mathlib.Core.Bool.{Bool, true, false, cond, true≢false}
-use mathlib.Core.Option.{Option, none, some}
+use mathlib.Core.Bool.{true, false, true≢false}
+use mathlib.Core.Option.{none, some}
 use mathlib.Core.List.{List, [], _∷_, _++_, append-nil, append-assoc}
 use Prim.Native.Nat.{ℕ, zero, suc, _+_, _-_, _*_, _%_, _≤_, _<_}
 use native.Mathlib.Numerals.{add-one}
@@ -10,17 +10,17 @@ use native.Mathlib.Omega.{arith}
 use native.Mathlib.Decide.{decLe}
 use lib.Dec.{eqb}
 use lib.ListN.{length, take, drop, getD, set, length-set, length-map, length-drop, drop-of-length-le}
-use lib.Seq.{getD-set-same, getD-set-other, take-set-le, drop-cons, getD-drop}
+use lib.Seq.{getD-set-same, getD-set-other, take-set-le, getD-drop}
 use borrow.Author.Tests.{eq-eqb}
 use Rattle.text.specs.Ascii.{toFirst}
 use Rattle.text.specs.Cells.{Cell, bytes, part}
 use Rattle.text.proofs.Bytes.{first-within}
 use Rattle.text.proofs.Writing.{part-none}
-use Rattle.mark_tags.specs.Marks.{Kind, Tag, opener, closer, tagAt, more, Tokens, cut, scan, ends, after}
-use Rattle.mark_tags.specs.Flat.{Flat, piece, rawTag, raws, flatOf, codeAt, boundAt, flatAt, flats, stackOf, withItem, Bounded, Tagged, tagNumber, kindNumbered}
+use Rattle.mark_tags.specs.Marks.{Kind, Tag, opener, closer, tagAt, more, Tokens, scan, ends, after}
+use Rattle.mark_tags.specs.Flat.{Flat, piece, rawTag, raws, flatOf, codeAt, boundAt, flatAt, flats, stackOf, withItem, Bounded, Tagged, kindNumbered}
 use Rattle.mark_tags.proofs.TagNumbers.{no-tag}
 use Rattle.mark_pieces.proofs.Pieces.{bytes-drop}
-use Rattle.mark_items.proofs.Scanning.{Opens, Closes, first-passed, fronted, fronted-none, scan-plain, scan-tag, tag-fits}
+use Rattle.mark_items.proofs.Scanning.{first-passed, fronted, fronted-none, scan-plain, scan-tag, tag-fits}
 
 -- ---- items by their numbers
 

@@ -1,19 +1,19 @@
 -- A turn of the loop that reads a text's tags, by what its calls ensure. Assumes nothing.
 use mathlib.Core.Path.{_≡_, refl, sym, ap, _∙_}
 use mathlib.Core.Bool.{Bool, true, false, cond}
-use mathlib.Core.Option.{Option, none, some}
-use mathlib.Core.List.{List, [], _∷_, _++_}
-use Prim.Native.Nat.{ℕ, zero, suc, _+_, _-_, _*_, _%_, _≤_, _<_}
+use mathlib.Core.Option.{Option, some}
+use mathlib.Core.List.{List}
+use Prim.Native.Nat.{ℕ, suc, _+_, _-_, _*_, _%_, _≤_, _<_}
 use native.Mathlib.Omega.{arith}
 use native.Mathlib.Decide.{decLe}
-use lib.Dec.{eqb, ltb}
-use lib.ListN.{length, take, drop, getD, set, length-drop}
+use lib.Dec.{ltb}
+use lib.ListN.{length, take, drop, getD, length-drop}
 use lib.Seq.{getD-take, take-take}
 use borrow.Author.Tests.{lt-ltb, le-ltb, ne-eqb}
 use Rattle.text.specs.Cells.{Cell}
 use Rattle.mark_tags.specs.Marks.{Tag, opener, closer, tagAt, more, ends, after}
-use Rattle.mark_tags.specs.Flat.{Flat, rawTag, flatOf, codeAt, boundAt, flatAt, flats, stackOf, withItem, Stacked, tagNumber, numberedTag, codeOf, widthOf, kindNumbered}
-use Rattle.mark_items.proofs.Scanning.{Opens, Closes, number-opens, number-closes, number-small, number-big, tag-fits}
+use Rattle.mark_tags.specs.Flat.{rawTag, flatOf, codeAt, boundAt, flatAt, stackOf, withItem, Stacked, tagNumber, numberedTag, codeOf, widthOf, kindNumbered}
+use Rattle.mark_items.proofs.Scanning.{number-opens, number-closes, number-big, tag-fits}
 use Rattle.mark_items.proofs.Stack.{numbered-opener, numbered-closer, code-closer}
 use Rattle.mark_items.proofs.Tabling.{flats-same, flatAt-same, Reading, reading-tag, item-stack, item-length}
 

@@ -1,6 +1,6 @@
 -- Laws of the classes of bytes: the code's test for the braced form is the definition's. Assumes nothing.
 use mathlib.Core.Path.{_≡_, refl}
-use mathlib.Core.Bool.{Bool, _&&_, _||_}
+use mathlib.Core.Bool.{_&&_, _||_}
 use Prim.Native.Nat.{ℕ}
 use lib.Dec.{eqb}
 use Rattle.mark_tags.specs.Marks.{Class, word, space, other, isWord, isSpace, class, classNumber, braced}

@@ -1,17 +1,17 @@
 -- Laws of the pieces that are written, and of a cell put before others. Assumes nothing.
 use mathlib.Core.Path.{_≡_, refl, sym, ap, _∙_, subst}
 use mathlib.Core.Bool.{Bool, true, false, not, _&&_}
-use mathlib.Core.List.{List, [], _∷_, _++_, append-assoc}
+use mathlib.Core.List.{List, [], _∷_, _++_}
 use Prim.Native.Nat.{ℕ, zero, suc, _+_, _-_, _≤_, _<_}
 use native.Mathlib.Numerals.{add-one}
 use native.Mathlib.Omega.{arith}
 use lib.Dec.{eqb}
 use lib.ListN.{length, take, drop, getD, set, length-append, length-set, length-take, take-append-drop, drop-of-length-le}
-use lib.Seq.{slice-cons, slice-empty, take-suc, drop-append-le, take-take, take-set-le, take-set-lt, drop-set-lt, getD-take, getD-set-same, take-append-seam, drop-append-seam, length-take-le}
+use lib.Seq.{slice-cons, take-suc, drop-append-le, take-take, take-set-le, take-set-lt, drop-set-lt, getD-take, getD-set-same, take-append-seam, drop-append-seam, length-take-le}
 use borrow.Author.Tests.{eq-eqb, ne-eqb}
 use Rattle.text.specs.Ascii.{is, isEmpty}
 use Rattle.text.specs.Cells.{Cell, cell, cells, part, bytes, sign}
-use Rattle.text.specs.Writes.{Holds, Appends}
+use Rattle.text.specs.Writes.{Appends}
 use Rattle.text.proofs.Writing.{holds-fits, appends-then, part-snoc, part-cons, part-none, cells-set, cells-at, cells-short, cells-le}
 use Rattle.text.proofs.Clearing.{cells-bytes}
 use Rattle.mark_tags.specs.Marks.{escapeLast, backslash, touching, pieceText, firstOr, absent}

@@ -1,19 +1,17 @@
 -- Laws of a mark's delimiters around its body. Assumes nothing.
 use mathlib.Core.Path.{_≡_, refl, sym, ap, _∙_, subst}
-use mathlib.Core.Bool.{Bool, true, false, not, _&&_}
-use mathlib.Core.List.{List, [], _∷_, _++_, append-assoc, append-nil}
-use Prim.Native.Nat.{ℕ, zero, suc, _+_, _-_, _≤_, _<_}
-use native.Mathlib.Nat.{le-trans}
+use mathlib.Core.Bool.{Bool, true, false, _&&_}
+use mathlib.Core.List.{List, [], _∷_, _++_, append-assoc}
+use Prim.Native.Nat.{ℕ, _+_, _-_, _≤_, _<_}
 use native.Mathlib.Omega.{arith}
-use lib.Dec.{eqb}
 use lib.ListN.{length, take, drop, getD, length-append}
 use lib.Seq.{take-take}
-use borrow.Author.Tests.{eq-eqb, ne-eqb}
+use borrow.Author.Tests.{eq-eqb}
 use Rattle.text.specs.Ascii.{is}
-use Rattle.text.specs.Cells.{Cell, cell, cells, part, bytes, sign}
+use Rattle.text.specs.Cells.{Cell, cell, cells, part, sign}
 use Rattle.text.specs.Writes.{Holds, Appends}
 use Rattle.text.proofs.Writing.{holds-fits, part-snoc}
-use Rattle.mark_tags.specs.Marks.{escapeLast, backslash, closing, opening, wrapText}
+use Rattle.mark_tags.specs.Marks.{escapeLast, backslash}
 use Rattle.mark_tags.specs.Flat.{evenRun, Inserts, Becomes, behindBrace}
 use Rattle.mark_pieces.proofs.Pieces.{escape-last, part-bytes, part-behind, cells-long}
 

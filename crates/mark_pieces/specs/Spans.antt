@@ -5,14 +5,14 @@
 --   Writes ..        a text and its spans have been written: from v at `at` and ss at c to v' at `at'` and ss' at c'
 -- Assumes nothing.
 use mathlib.Core.Path.{_≡_}
-use mathlib.Core.List.{List, [], _∷_, _++_, map}
+use mathlib.Core.List.{List, _∷_, _++_, map}
 use Prim.Native.Nat.{ℕ, suc, _+_, _-_, _*_, _%_, _≤_, _<_}
 use lib.ListN.{length, take, drop, getD}
 use mathlib.Core.Bool.{Bool, true, false, cond}
 use Rattle.text.specs.Ascii.{is}
 use Rattle.text.specs.Cells.{Cell, cells}
 use Rattle.text.specs.Writes.{Holds, Appends}
-use Rattle.mark_tags.specs.Marks.{Items, end, text, gone, mark, Written, shift, spanNumbers, start, write, content, next, State, Step, markStep, braced, escapeLast}
+use Rattle.mark_tags.specs.Marks.{Items, end, text, gone, mark, Written, shift, spanNumbers, start, write, content, next, Step, markStep, braced, escapeLast}
 use Rattle.mark_tags.specs.Flat.{within, beyond, slotAt, Held, Fresh, kindNumbered, kindsOf, behindBrace}
 
 abbrev pub raised : (by : ℕ) → List ℕ → List ℕ

@@ -10,7 +10,7 @@ use Rattle.text.specs.Ascii.{is, isEmpty}
 use Rattle.text.specs.Cells.{Cell, bytes, sign}
 use Rattle.text.specs.Split.{Split, done, copied, consumed, lost, wrote}
 use Rattle.text.proofs.SplitLaws.{append, keeps-all, takes-all}
-use Rattle.mark_tags.specs.Marks.{Kind, Tag, Tokens, last, cut, onto, token, more, tagAt, scan, Items, end, text, gone, mark, Slots, open-end, closed, front, opener, closer, opened, put, after, ends, parse, _⧺_, whole, items, Kinds, no-kinds, has, add, merge, Written, delimiter, content, next, Next, lastOr, firstOr, escapeLast, State, start, textStep, pieceText, marked, braced, wrapText, wrap, markStep, write, marks, taken, takenMarks, absent, nextByte, backslash, opening, closing, touching}
+use Rattle.mark_tags.specs.Marks.{Kind, Tag, Tokens, last, cut, onto, token, more, tagAt, scan, Items, end, text, gone, mark, Slots, open-end, closed, front, opener, closer, put, after, ends, parse, _⧺_, whole, items, Kinds, no-kinds, has, add, merge, Written, delimiter, content, next, Next, lastOr, firstOr, escapeLast, State, start, textStep, pieceText, marked, braced, wrapText, wrap, markStep, write, marks, taken, takenMarks, absent, nextByte, backslash, opening, closing, touching}
 use Rattle.mark_tags.specs.Marks as M
 
 pub or-false-left : (a b : Bool) → (a || b) ≡ false → a ≡ false

@@ -18,7 +18,7 @@ use mathlib.Core.Option.{Option, none, some}
 use Prim.Native.Nat.{ℕ, zero, suc, _+_}
 use lib.Dec.{eqb}
 use lib.ListN.{length, take, getD}
-use Rattle.text.specs.Ascii.{is, inside, within, isDigit, isLetter, isEmpty}
+use Rattle.text.specs.Ascii.{is, inside, isDigit, isLetter, isEmpty}
 use Rattle.text.specs.Cells.{Cell, bytes, sign}
 
 -- ---- Tags

@@ -2,7 +2,7 @@
 use text::scan::one_if;
 ghost use mathlib.Core.Path.{_≡_};
 ghost use mathlib.Core.Bool.{cond};
-ghost use Prim.Native.Nat.{_≤_, _<_};
+ghost use Prim.Native.Nat.{_<_};
 ghost use lib.ListN.{length, drop};
 ghost use Rattle.mark_tags.specs.Marks.{kindOf, tagOfBytes, tagAt};
 ghost use Rattle.mark_tags.specs.Flat.{letterNumber, tagNumber};

@@ -1,21 +1,17 @@
 -- Laws of writing a slot: texts and their spans one behind the other. Assumes nothing.
-use mathlib.Core.Path.{_≡_, refl, sym, ap, ap₂, _∙_, subst}
+use mathlib.Core.Path.{_≡_, refl, sym, ap, _∙_, subst}
 use mathlib.Core.List.{List, [], _∷_, _++_, append-assoc, append-nil, map, map-append}
-use mathlib.Core.Bool.{Bool, true, false, not, cond, _&&_, _||_, false≢true}
-use mathlib.Core.Logic.{_⊎_, inl, inr}
-use Prim.Native.Nat.{ℕ, zero, suc, _+_, _-_, _*_, _≤_, _<_}
+use Prim.Native.Nat.{ℕ, _+_, _-_, _≤_, _<_}
 use native.Mathlib.Nat.{add-assoc, zero-add}
 use native.Mathlib.Omega.{arith}
 use native.Mathlib.Decide.{decLe}
-use lib.Dec.{eqb}
-use lib.ListN.{length, take, drop, getD, length-append, length-map}
-use lib.Seq.{take-take, take-length, length-take-le}
-use Rattle.text.specs.Ascii.{is, isEmpty}
+use lib.ListN.{length, take, length-append, length-map}
+use lib.Seq.{length-take-le}
 use Rattle.text.specs.Cells.{Cell, cells}
 use Rattle.text.specs.Writes.{Holds, Appends}
 use Rattle.text.proofs.Writing.{holds-fits, appends-none, appends-then}
-use Rattle.mark_tags.specs.Marks.{Kind, Items, end, text, gone, mark, Span, Written, shift, plain, _▹_, content, Next, next, nextByte, marked, State, start, textStep, pieceText, touching, markStep, wrap, wrapText, opening, closing, delimiter, braced, firstOr, lastOr, absent, backslash, escapeLast, write, spanNumbers}
-use Rattle.mark_pieces.specs.Spans.{raised, Writes}
+use Rattle.mark_tags.specs.Marks.{end, text, Span, Written, shift, plain, _▹_, spanNumbers}
+use Rattle.mark_pieces.specs.Spans.{Writes}
 
 -- ---- texts behind one another
 

@@ -1,15 +1,14 @@
 -- Laws of the loops that look through a slot: whether it has content, and what is written next. Assumes nothing.
 use mathlib.Core.Path.{_≡_, refl, sym, ap, _∙_, subst}
-use mathlib.Core.List.{List, [], _∷_}
-use mathlib.Core.Bool.{Bool, true, false, cond, _||_}
-use Prim.Native.Nat.{ℕ, zero, suc, _+_, _-_, _*_, _%_, _≤_, _<_, max}
+use mathlib.Core.List.{List, []}
+use mathlib.Core.Bool.{true}
+use Prim.Native.Nat.{ℕ, suc, _+_, _-_, _%_, _≤_, _<_, max}
 use native.Mathlib.Omega.{arith}
-use lib.Dec.{eqb}
 use borrow.Author.Tests.{ne-eqb}
 use lib.ListN.{length, getD}
-use Rattle.text.specs.Cells.{Cell, cell, cells, part}
-use Rattle.mark_tags.specs.Marks.{Kind, Items, end, text, gone, mark, Slots, open-end, closed, front, content, Next, nothing, a-byte, a-mark, next}
-use Rattle.mark_tags.specs.Flat.{around, within, beyond, depthOf, boundAt, slotAt, kindNumbered, Held, Ready, Empty, Answer, nextNumber, NextIs}
+use Rattle.text.specs.Cells.{Cell}
+use Rattle.mark_tags.specs.Marks.{Kind, text, mark, Slots, front, content, Next, nothing, a-byte, a-mark, next}
+use Rattle.mark_tags.specs.Flat.{within, beyond, depthOf, boundAt, slotAt, kindNumbered, Ready, Empty, Answer, NextIs}
 use Rattle.mark_writing.proofs.Slotting.{code, spelled, front-within, front-beyond, around-within, around-beyond, at-text, at-leave, at-gone, at-mark, at-end, no-text, some-text}
 
 -- the loop at item i of the slot that starts at `at`

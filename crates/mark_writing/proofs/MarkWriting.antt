@@ -1,23 +1,23 @@
 -- Laws of a mark that is written: its body, its form, its span. Assumes nothing.
 use mathlib.Core.Path.{_≡_, refl, sym, ap, ap₂, _∙_, subst}
-use mathlib.Core.List.{List, [], _∷_, _++_, append-assoc, append-nil, map}
+use mathlib.Core.List.{List, [], _∷_, _++_, append-assoc, map}
 use mathlib.Core.Bool.{Bool, true, false, not, cond, _&&_, _||_, false≢true}
 use mathlib.Core.Logic.{_⊎_, inl, inr}
 use Prim.Native.Nat.{ℕ, zero, suc, _+_, _-_, _*_, _%_, _≤_, _<_}
-use native.Mathlib.Nat.{add-zero, add-assoc}
+use native.Mathlib.Nat.{add-zero}
 use native.Mathlib.Omega.{arith}
 use native.Mathlib.Decide.{decLe}
 use lib.Dec.{eqb}
-use lib.ListN.{length, take, drop, getD, length-append, length-map, length-take}
+use lib.ListN.{length, take, drop, getD, length-append, length-map}
 use lib.Seq.{getD-take, getD-append-add, length-take-le, drop-at, take-take, take-append-le}
 use Rattle.text.specs.Ascii.{is, isEmpty}
 use Rattle.text.specs.Cells.{Cell, cell, cells, part, bytes, sign}
 use Rattle.text.specs.Writes.{Holds, Appends}
 use Rattle.text.proofs.Writing.{holds-fits, appends-then, part-snoc}
 use Rattle.text.proofs.Clearing.{cells-bytes}
-use Rattle.mark_tags.specs.Marks.{Kind, bold, italic, underline, strike, Items, end, text, gone, mark, Slots, Span, Written, shift, plain, _▹_, content, Next, next, nextByte, State, start, Step, textStep, pieceText, touching, marked, markStep, wrap, wrapText, opening, closing, delimiter, braced, firstOr, lastOr, absent, backslash, escapeLast, write, spanNumbers}
-use Rattle.mark_tags.specs.Flat.{within, beyond, slotAt, kindNumbered, NextIs, nextNumber, behindBrace}
-use Rattle.mark_pieces.specs.Spans.{raised, marksIn, Writes, Finished, SlotWritten, markAt, MarkReady, MarkWritten}
+use Rattle.mark_tags.specs.Marks.{Kind, bold, italic, underline, strike, Items, end, text, gone, mark, Slots, Span, Written, shift, _▹_, content, Next, next, nextByte, State, start, textStep, pieceText, touching, marked, markStep, wrap, wrapText, opening, closing, delimiter, braced, firstOr, lastOr, absent, backslash, escapeLast, write, spanNumbers}
+use Rattle.mark_tags.specs.Flat.{within, beyond, slotAt, kindNumbered, NextIs, behindBrace}
+use Rattle.mark_pieces.specs.Spans.{raised, marksIn, Finished, SlotWritten, markAt, MarkReady, MarkWritten}
 use Rattle.mark_pieces.proofs.Pieces.{cells-long}
 use Rattle.mark_writing.proofs.Drawing.{appends-end, shift-shift}
 use Rattle.mark_writing.specs.Bodied.{Bodied}

@@ -1,5 +1,5 @@
 -- What the functions that write slots and marks are asked follows from what they know. Assumes nothing.
-use mathlib.Core.Path.{_≡_, refl, sym, ap, _∙_, subst}
+use mathlib.Core.Path.{_≡_, refl, ap, _∙_, subst}
 use mathlib.Core.List.{List, []}
 use mathlib.Core.Bool.{Bool, true, false, cond}
 use Prim.Native.Nat.{ℕ, suc, _+_, _-_, _*_, _%_, _≤_, _<_}
@@ -9,12 +9,12 @@ use lib.Count.{ones}
 use lib.Dec.{eqb}
 use borrow.Author.Tests.{eqb-false}
 use lib.ListN.{length, getD}
-use Rattle.mark_tags.specs.Marks.{Kind, Items, mark, Next, nothing, a-byte, a-mark, nextByte, marked, has, add}
-use Rattle.mark_tags.specs.Flat.{within, beyond, slotAt, Fresh, depthOf, kindNumbered, kindsOf, bitOf, Held, Ready, NextIs, nextNumber}
+use Rattle.mark_tags.specs.Marks.{mark, Next, nothing, a-byte, a-mark, nextByte, marked}
+use Rattle.mark_tags.specs.Flat.{within, beyond, slotAt, Fresh, kindNumbered, kindsOf, bitOf, Held, Ready, NextIs, nextNumber}
 use Rattle.mark_pieces.specs.Spans.{marksIn, Slot, MarkReady}
 use Rattle.mark_tags.proofs.Depth.{count, count-le, count-add, fresh-depth}
 use Rattle.mark_items.proofs.Masks.{Fits, fits, ones-count}
-use Rattle.mark_writing.proofs.Slotting.{code, at-mark, around-within}
+use Rattle.mark_writing.proofs.Slotting.{at-mark, around-within}
 
 pub ones-few : (mask : ℕ) → mask < 16 → ones mask ≤ 4
 ones-few mask h = let a = ones-count mask h in let b = count-le (kindsOf mask) in omega arith

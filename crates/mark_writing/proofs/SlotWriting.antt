@@ -1,17 +1,16 @@
 -- Laws of the loop that writes a slot's items. Assumes nothing.
-use mathlib.Core.Path.{_≡_, refl, sym, ap, ap₂, _∙_, subst}
-use mathlib.Core.List.{List, [], _∷_, _++_, append-nil, map}
-use mathlib.Core.Bool.{Bool, true, false, not, cond, _&&_}
-use Prim.Native.Nat.{ℕ, zero, suc, _+_, _-_, _*_, _%_, _≤_, _<_}
+use mathlib.Core.Path.{_≡_, refl, sym, ap, _∙_, subst}
+use mathlib.Core.List.{List, [], _∷_, _++_, map}
+use mathlib.Core.Bool.{Bool, true, false, not, _&&_}
+use Prim.Native.Nat.{ℕ, suc, _+_, _-_, _*_, _%_, _≤_, _<_}
 use native.Mathlib.Omega.{arith}
-use native.Mathlib.Decide.{decLe}
 use lib.Dec.{eqb}
-use lib.ListN.{length, take, getD, length-map}
+use lib.ListN.{length, take, length-map}
 use Rattle.text.specs.Ascii.{is}
-use Rattle.text.specs.Cells.{Cell, cell, cells, part}
+use Rattle.text.specs.Cells.{Cell, cells}
 use Rattle.text.specs.Writes.{Appends}
-use Rattle.mark_tags.specs.Marks.{Kind, Items, end, text, gone, mark, Slots, open-end, closed, front, Written, shift, plain, _▹_, content, Next, next, marked, State, start, Step, backslash, escapeLast, touching, firstOr, textStep, pieceText, markStep, wrap, lastOr, absent, write, spanNumbers}
-use Rattle.mark_tags.specs.Flat.{around, within, beyond, depthOf, boundAt, slotAt, Fresh, kindNumbered, kindsOf, Held, Ready, Empty}
+use Rattle.mark_tags.specs.Marks.{Kind, Items, end, text, mark, Slots, Written, shift, plain, _▹_, content, Next, next, marked, State, start, Step, backslash, escapeLast, touching, firstOr, textStep, pieceText, markStep, wrap, lastOr, absent, write, spanNumbers}
+use Rattle.mark_tags.specs.Flat.{within, beyond, boundAt, slotAt, Fresh, kindNumbered, kindsOf, Held, Empty}
 use Rattle.mark_pieces.specs.Spans.{marksIn, Writes, Slot, SlotWritten, markAt, MarkWritten}
 use Rattle.mark_writing.proofs.Slotting.{code, spelled, front-within, front-beyond, around-within, around-beyond, at-text, at-leave, at-gone, at-mark, at-end, no-text, some-text}
 use Rattle.mark_writing.proofs.Drawing.{▹-assoc, plain-▹, ▹-plain, appends-if, writes-none, writes-plain, writes-then}

@@ -1,17 +1,15 @@
 -- Laws of the slots that held items stand for, and of the loops that look through a slot. Assumes nothing.
-use mathlib.Core.Path.{_≡_, refl, sym, ap, _∙_, subst}
+use mathlib.Core.Path.{_≡_, refl, ap, _∙_}
 use mathlib.Core.List.{List, [], _∷_}
-use mathlib.Core.Bool.{Bool, true, false, cond, _||_}
-use Prim.Native.Nat.{ℕ, zero, suc, _+_, _-_, _*_, _%_, _≤_, _<_, max}
+use Prim.Native.Nat.{ℕ, suc, _+_, _-_, _*_, _%_, _≤_, _<_}
 use native.Mathlib.Omega.{arith}
 use native.Mathlib.Numerals.{add-one}
 use native.Mathlib.Decide.{decLe}
-use lib.Dec.{eqb}
 use lib.ListN.{length, getD}
 use Rattle.text.specs.Cells.{Cell, cell, cells, part}
 use Rattle.text.proofs.Writing.{part-cons, part-end}
-use Rattle.mark_tags.specs.Marks.{Kind, Items, end, text, gone, mark, Slots, open-end, closed, front, content, Next, nothing, a-byte, a-mark, next}
-use Rattle.mark_tags.specs.Flat.{Flat, piece, vanish, leave, enter, begun, around, view, within, beyond, depthOf, flatOf, codeAt, boundAt, flatAt, flats, slotsAt, held, slotAt, kindNumbered, Bounded, Held, Ready, Empty, Answer, nextNumber}
+use Rattle.mark_tags.specs.Marks.{Kind, Items, end, text, mark, Slots, open-end, closed, front}
+use Rattle.mark_tags.specs.Flat.{Flat, piece, vanish, leave, enter, begun, around, view, within, beyond, flatOf, boundAt, flats, slotsAt, held, slotAt, kindNumbered, Bounded, Held}
 use Rattle.mark_items.proofs.Settling.{flat-leave, flat-gone, flat-enter, flat-begun, flat-code}
 use Rattle.mark_items.proofs.Merging.{cons-flats, zero-piece}
 

@@ -1,13 +1,13 @@
 -- Laws of a whole call. Assumes nothing.
 use mathlib.Core.Path.{_≡_, refl, sym, ap, ap₂, _∙_, subst}
 use mathlib.Core.Bool.{Bool, true, false, cond, _&&_}
-use mathlib.Core.List.{List, [], _∷_, _++_, map}
-use Prim.Native.Nat.{ℕ, zero, suc, _+_, _*_, _/_, _≤_, _<_}
+use mathlib.Core.List.{List, [], map}
+use Prim.Native.Nat.{ℕ, _+_, _*_, _/_, _≤_, _<_}
 use native.Mathlib.Omega.{arith}
 use native.Mathlib.Decide.{decLe}
 use lib.ListN.{length, take}
 use lib.Seq.{length-take-le}
-use lib.Dec.{leb, ltb}
+use lib.Dec.{leb}
 use borrow.Author.Tests.{lt-ltb, le-ltb, leb-true}
 use Rattle.text.specs.Cells.{Cell, cells, cellsOf}
 use Rattle.lending.specs.Lent.{textMost, outMost, sizesRight, checked}
@@ -20,14 +20,14 @@ use Rattle.lending.specs.declared.lent.Checked.the-variants as C
 use Rattle.text.proofs.Writing.{holds-fits}
 use Rattle.text.proofs.Clearing.{cells-bytes, cells-origins, laid-cleared, length-mapped}
 use Rattle.text.proofs.Copying.{length-cellsOf}
-use Rattle.mark_tags.specs.Marks.{Written, plain, shift, start, write, marks, merge, no-kinds, items, spanNumbers}
+use Rattle.mark_tags.specs.Marks.{plain, start, marks, merge, no-kinds, items, spanNumbers}
 use Rattle.mark_pieces.proofs.Pieces.{cells-long}
-use Rattle.mark_pieces.specs.Spans.{marksIn, Writes}
+use Rattle.mark_pieces.specs.Spans.{Writes}
 use Rattle.mark_writing.proofs.Drawing.{shift-zero}
 use Rattle.mark_writing.proofs.MarkWriting.{spans-few}
 use Rattle.marks.specs.declared.Marked.{Marked}
 use Rattle.marks.specs.declared.Marked.the-variants.{Done, Refused}
-use Rattle.marks.specs.Calls.{converted, answerBy, answered, writtenOf, Left, Converted, Called}
+use Rattle.marks.specs.Calls.{converted, answerBy, answered, Left, Converted, Called}
 use Rattle.marks.proofs.Counting.{marks-third}
 use Rattle.marks.proofs.Passing.{pass-held}
 

@@ -1,14 +1,14 @@
 -- The flat sequence that code makes of a text stands for the merged items of the definition. Assumes nothing.
 use mathlib.Core.Path.{_≡_, refl, sym, ap, ap₂, _∙_}
-use mathlib.Core.List.{List, [], _∷_, _++_}
+use mathlib.Core.List.{List, [], _∷_}
 use mathlib.Core.Bool.{Bool, true, false, cond, _||_}
 use Prim.Native.Nat.{ℕ, zero, suc, _≤_}
 use native.Mathlib.Omega.{arith}
 use lib.ListN.{length}
 use Rattle.text.specs.Cells.{Cell}
 use Rattle.mark_tags.specs.Marks.{Kind, same, Tag, opener, closer, Tokens, last, cut, scan, Items, end, text, gone, mark, Slots, open-end, closed, front, after, ends, opened, put, parse, _⧺_, whole, items, Kinds, no-kinds, has, add, join, merge, content, Next, next, a-mark, State, start, textStep, markStep, Written, _▹_, write, marks}
-use Rattle.mark_tags.specs.Flat.{Flat, piece, vanish, leave, enter, begun, around, view, within, beyond, rawTag, raws, Settled, settledOpen, settle, settled, Outer, entered, leaving, outside, rest, merged, flatMarks, Fresh}
-use Rattle.mark_tags.proofs.Depth.{add-has, fresh-merge}
+use Rattle.mark_tags.specs.Flat.{Flat, piece, vanish, leave, enter, begun, around, view, within, rawTag, raws, Settled, settledOpen, settle, settled, Outer, entered, merged, flatMarks, Fresh}
+use Rattle.mark_tags.proofs.Depth.{fresh-merge}
 
 -- The items that a flat sequence stands for.
 unfoldable grow : List Flat → Slots

@@ -1,8 +1,8 @@
 -- The whole pass over a text: what its items write is what the definition gives. Assumes nothing.
 use mathlib.Core.Path.{_≡_, refl, sym, ap, _∙_, subst}
 use mathlib.Core.List.{List, [], _∷_}
-use Prim.Native.Nat.{ℕ, zero, suc, _+_, _-_, _*_, _≤_, _<_}
-use native.Mathlib.Nat.{sub-zero, le-of-suc-le-suc, not-suc-le-zero}
+use Prim.Native.Nat.{ℕ, _+_, _-_, _*_, _≤_}
+use native.Mathlib.Nat.{sub-zero}
 use native.Mathlib.Omega.{arith}
 use lib.ListN.{length, take}
 use lib.Seq.{take-all}
@@ -13,9 +13,8 @@ use Rattle.text.proofs.Clearing.{cells-bytes}
 use Rattle.text.proofs.Copying.{length-cellsOf}
 use Rattle.mark_tags.specs.Marks as Marks
 use Rattle.mark_tags.specs.Marks.{Items, end, text, gone, mark, Written, start, write, marks, merge, no-kinds, items}
-use Rattle.mark_tags.specs.Flat.{view, within, flatMarks, flats, flatAt, slotsAt, held, slotAt, kindsOf, Fresh, Held, Itemed}
+use Rattle.mark_tags.specs.Flat.{view, within, flatMarks, slotsAt, held, slotAt, kindsOf, Itemed}
 use Rattle.mark_pieces.specs.Spans.{marksIn, Writes, Slot, SlotWritten}
-use Rattle.mark_pieces.proofs.Pieces.{cells-long}
 use Rattle.marks.proofs.Counting.{marks-third}
 use Rattle.marks.proofs.Flattening.{bare, view-marks, fresh-view, written-view}
 

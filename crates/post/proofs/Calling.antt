@@ -1,7 +1,7 @@
 -- Laws of a whole call. Assumes nothing.
 use mathlib.Core.Path.{_≡_, refl, sym, ap, _∙_}
 use mathlib.Core.Bool.{Bool, true, false, cond}
-use mathlib.Core.List.{List, [], _∷_, _++_}
+use mathlib.Core.List.{List, [], _++_}
 use Prim.Native.Nat.{ℕ, _+_, _-_, _*_, _≤_, _<_}
 use native.Mathlib.Omega.{arith}
 use native.Mathlib.Decide.{decLe}
@@ -10,8 +10,7 @@ use lib.Seq.{length-take-le, take-at, take-append-le, take-take}
 use lib.Dec.{ltb}
 use borrow.Author.Tests.{lt-ltb, le-ltb}
 use Rattle.text.specs.Cells.{Cell, cells, cellsOf, bytes, origins, part}
-use Rattle.text.specs.Writes.{Holds, cleared, padded, LaidOut}
-use Rattle.text.specs.Origins.{CopiedByOrigin}
+use Rattle.text.specs.Writes.{Holds, cleared, padded}
 use Rattle.lending.specs.Lent.{checked}
 use Rattle.lending.specs.declared.lent.Refusal.{Refusal}
 use Rattle.lending.specs.declared.lent.Refusal.the-variants.{TooDeep, NoSpace}
@@ -31,8 +30,8 @@ use Rattle.quotes.specs.Calls.{limited, Filled, Spelled}
 use Rattle.list_blocks.specs.Tags as ListTags
 use Rattle.list_blocks.specs.Lists.{lists, listsNeed}
 use Rattle.list_steps.proofs.Needs.{lists-fits}
-use Rattle.post_steps.specs.Fills.{Stands, Fills, Lays}
-use Rattle.chain.specs.Post.{marksText, quotedText, finished, Consumed}
+use Rattle.post_steps.specs.Fills.{Fills, Lays}
+use Rattle.chain.specs.Post.{marksText, quotedText, finished}
 use Rattle.post.specs.Calls.{listing, quoting, marked, converted, answered, answerBy, Called, Copied, lossesBy, Noted, Ends, Numbered}
 use Rattle.post.specs.declared.Posted.{Posted}
 use Rattle.post.specs.declared.Posted.the-variants.{Done, Refused}

@@ -1,6 +1,6 @@
 -- A marks text is no longer than the text it is written of: a mark has seven cells, its opener and its closer, and writes at most six, the
 -- backslashes around it among them. Assumes nothing.
-use mathlib.Core.Path.{_≡_, refl, sym, ap, _∙_}
+use mathlib.Core.Path.{_≡_, refl, ap, _∙_}
 use mathlib.Core.List.{List, [], _∷_, _++_}
 use mathlib.Core.Bool.{Bool, true, false, not, _&&_, cond}
 use mathlib.Core.Option.{Option, none, some}
@@ -11,7 +11,7 @@ use lib.ListN.{length, length-map, length-append}
 use lib.Seq.{length-take-le}
 use Rattle.text.specs.Ascii.{is}
 use Rattle.text.specs.Cells.{Cell, bytes, sign}
-use Rattle.mark_tags.specs.Marks.{Kind, Tag, opener, closer, tagAt, more, Tokens, last, cut, onto, token, scan, Items, end, text, gone, mark, Slots, open-end, closed, front, after, ends, put, parse, _⧺_, whole, items, Kinds, no-kinds, has, add, join, merge, content, Next, nothing, a-byte, a-mark, next, nextByte, marked, backslash, escapeLast, State, start, touching, pieceText, textStep, braced, wrapText, wrap, markStep, write, marks, delimiter, firstOr, lastOr, absent, _▹_}
+use Rattle.mark_tags.specs.Marks.{Kind, Tag, opener, closer, tagAt, more, Tokens, last, cut, onto, token, scan, Items, end, text, gone, mark, Slots, open-end, closed, front, after, ends, put, parse, _⧺_, whole, items, Kinds, no-kinds, has, add, join, merge, content, a-mark, next, nextByte, marked, backslash, escapeLast, State, start, touching, pieceText, textStep, braced, wrapText, wrap, markStep, write, marks, delimiter, firstOr, lastOr, absent, _▹_}
 use Rattle.mark_items.proofs.Scanning.{tag-fits}
 
 -- the cells of a text that its items stand for, at least: seven for each mark

@@ -1,7 +1,7 @@
 -- Laws of what is printed of a post. Assumes nothing.
-use mathlib.Core.Path.{_≡_, refl, sym, ap, _∙_}
+use mathlib.Core.Path.{_≡_, sym, _∙_}
 use mathlib.Core.Bool.{true, false}
-use Prim.Native.Nat.{ℕ, _≤_, _<_, min}
+use Prim.Native.Nat.{ℕ, _≤_, min}
 use native.Mathlib.Omega.{arith}
 use native.Mathlib.Decide.{decLe}
 use mathlib.Core.List.{List, map}
@@ -15,7 +15,6 @@ use Rattle.text.specs.Decimal.{decimal}
 use Rattle.lending.specs.Lent.{numberOf}
 use Rattle.text.specs.Writes.{Appends}
 use Rattle.lending.specs.declared.lent.Refusal.{Refusal}
-use Rattle.lending.specs.declared.lent.Spans.the-variants.{Without}
 use Rattle.losses.specs.declared.Loss.{Loss}
 use Rattle.post.specs.Calls.{Called}
 use Rattle.post.specs.declared.Posted.{Posted}

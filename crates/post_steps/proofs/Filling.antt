@@ -15,7 +15,7 @@ use Rattle.quote_steps.specs.Passes.{Leaves}
 use Rattle.list_blocks.specs.Lists.{lists, listsNeed}
 use Rattle.list_steps.specs.Standing.{Passed}
 use Rattle.list_steps.proofs.Needs.{lists-fits}
-use Rattle.post_steps.specs.Fills.{Stands, Fills, Lays}
+use Rattle.post_steps.specs.Fills.{Fills, Lays}
 
 part-front : (n : ℕ) (v : List Cell) → part 0 n v ≡ take n v
 unfolding part

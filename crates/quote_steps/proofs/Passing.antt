@@ -12,7 +12,7 @@ use lib.ListN.{length, take, drop, getD, set, length-append, length-map}
 use lib.Seq.{length-take-le, getD-take, take-take, take-at, drop-at, getD-set-same, getD-set-other}
 use Rattle.text.specs.Cells.{Cell, cells, bytes, part, feed}
 use Rattle.text.specs.Writes.{Holds, Appends, AppendsIn}
-use Rattle.text.proofs.Writing.{holds-fits, cells-le, cells-short, cells-at, part-cons, part-end}
+use Rattle.text.proofs.Writing.{holds-fits, cells-le, cells-short, cells-at, part-cons}
 use Rattle.text.proofs.Areas.{area-length}
 use Rattle.text.proofs.Clearing.{cells-bytes}
 use Rattle.text.proofs.Sources.{cells-taken}

@@ -10,7 +10,7 @@ use Rattle.text.proofs.Sources.{part-take}
 use Rattle.quote_tags.specs.Tags.{NoTag}
 use Rattle.quote_tags.proofs.Plain.{PlainRun}
 use Rattle.quote_blocks.proofs.Reading.{first-text, bytes-at}
-use Rattle.quote_blocks.specs.Quotes.{Token, text, tokens, State, held, total, step, run, runNeed, tooDeepFrom}
+use Rattle.quote_blocks.specs.Quotes.{Token, text, tokens, State, total, step, run, runNeed, tooDeepFrom}
 use Rattle.quote_steps.specs.Passes.{texts, more}
 
 -- ---- reading it

@@ -1,9 +1,9 @@
 -- Laws of appending in an area of a longer pair of slices. Assumes nothing.
 use mathlib.Core.Path.{_≡_, refl, sym, ap, _∙_}
-use Prim.Native.Nat.{ℕ, zero, suc, _+_, _-_, _≤_, _<_, min}
+use Prim.Native.Nat.{ℕ, _+_, _-_, _≤_, _<_, min}
 use native.Mathlib.Omega.{arith}
 use mathlib.Core.List.{List, [], _∷_, _++_}
-use lib.ListN.{length, take, drop, getD, set, length-take, length-drop}
+use lib.ListN.{length, take, drop, getD, set, length-drop}
 use lib.Seq.{take-set-lt, drop-set-lt, getD-take, length-take-le, take-all, take-take, drop-drop}
 use Rattle.text.specs.Cells.{Cell, cell, cells, part}
 use Rattle.text.specs.Writes.{Appends, AppendsIn, Pasted}

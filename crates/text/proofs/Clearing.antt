@@ -1,11 +1,11 @@
 -- Laws of clearing and of laying out a text. Assumes nothing.
-use mathlib.Core.Path.{_≡_, refl, sym, ap, _∙_}
+use mathlib.Core.Path.{_≡_, refl, ap, _∙_}
 use Prim.Native.Nat.{ℕ, zero, suc, _+_, _-_, _/_, _≤_, _<_}
 use native.Mathlib.Nat.{zero-sub, suc-sub-suc, sub-zero, le-of-suc-le-suc, not-suc-le-zero}
 use native.Mathlib.Numerals.{add-one}
-use Rattle.text.specs.Cells.{Cell, cell, cells, bytes, origins}
+use Rattle.text.specs.Cells.{cells, bytes, origins}
 use mathlib.Core.List.{List, [], _∷_, _++_, map}
-use lib.ListN.{length, take, getD, replicate, set, length-map}
+use lib.ListN.{length, take, getD, set, length-map}
 use lib.Seq.{take-nil, take-suc, take-suc-set, length-take-le}
 use Rattle.text.specs.Writes.{cleared, padded}
 

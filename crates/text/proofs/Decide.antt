@@ -1,6 +1,6 @@
 -- Code that decides by tests equals its definition: `search decide`, with the answer on the right. One law for each way to decide, and one
 -- for each kind of test. Assumes nothing.
-use mathlib.Core.Path.{_≡_, refl, sym, _∙_}
+use mathlib.Core.Path.{_≡_, sym, _∙_}
 use mathlib.Core.Bool.{Bool, true, false, cond, _&&_, _||_}
 use borrow.Author.Tests.{lt-ltb, le-ltb, le-leb, lt-leb, eq-eqb, ne-eqb}
 

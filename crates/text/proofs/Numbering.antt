@@ -2,16 +2,15 @@
 use mathlib.Core.Path.{_≡_, refl, sym, ap, _∙_}
 use mathlib.Core.Bool.{Bool, true, false, cond, _||_}
 use Prim.Native.Nat.{ℕ, zero, suc, _+_, _-_, _*_, _/_, _%_, _≤_, _<_}
-use lib.Dec.{eqb, leb, ltb}
-use native.Mathlib.Nat.{add-zero, zero-add, mul-zero, le-of-suc-le-suc, not-suc-le-zero, le-antisymm}
+use lib.Dec.{ltb}
 use native.Mathlib.Numerals.{add-one}
 use native.Mathlib.Omega.{arith}
 use native.Mathlib.Decide.{decLe}
-use mathlib.Core.List.{List, [], _∷_, _++_, map, append-nil, append-assoc}
+use mathlib.Core.List.{List, [], _∷_, _++_, append-nil}
 use lib.ListN.{length, take, drop, getD, set, drop-of-length-le}
 use lib.Seq.{drop-cons, take-suc-set, take-all, append-snoc, getD-set-same, getD-set-other}
 use Rattle.text.specs.Blanks.{blank1, blankSize}
-use Rattle.text.specs.Cells.{Cell, cell, cells, blankAt, moreAfter, cellsFrom, cellsOf, written, sign}
+use Rattle.text.specs.Cells.{Cell, cell, cells, blankAt, moreAfter, cellsFrom, cellsOf, written}
 use Rattle.text.proofs.Writing.{cells-in, cells-short}
 use Rattle.text.proofs.Characters.{lead, plain-blank}
 

@@ -2,7 +2,7 @@
 use mathlib.Core.Path.{_≡_, refl}
 use mathlib.Core.Bool.{Bool, true, false, cond, _&&_}
 use mathlib.Core.List.{List, [], _∷_, _++_, map}
-use Prim.Native.Nat.{ℕ, zero, suc}
+use Prim.Native.Nat.{ℕ}
 use lib.Dec.{eqb}
 use Rattle.text.specs.Cells.{Cell, cellsFrom, written, feed}
 use Rattle.text.specs.Lines.{trimStart, trimOnto, trimEnd, trim, isFeed, lineOnto, lines, followed, joined}

@@ -1,13 +1,13 @@
 -- The laws of cells and of appending, which the proofs of every function over a pair of slices cite. Assumes nothing.
 use mathlib.Core.Path.{_≡_, refl, sym, ap, _∙_}
-use Prim.Native.Nat.{ℕ, zero, suc, _+_, _-_, _≤_, _<_, min}
-use native.Mathlib.Nat.{le-of-suc-le-suc, not-suc-le-zero, le-trans, le-refl, add-zero}
+use Prim.Native.Nat.{ℕ, zero, suc, _+_, _-_, _≤_, _<_}
+use native.Mathlib.Nat.{le-of-suc-le-suc, not-suc-le-zero, le-trans, le-refl}
 use native.Mathlib.Numerals.{add-one}
 use native.Mathlib.Omega.{arith}
 use native.Mathlib.Decide.{decLe}
 use mathlib.Core.List.{List, [], _∷_, _++_, append-nil, append-assoc}
-use lib.ListN.{length, take, drop, getD, set, length-set, length-append, length-take, drop-of-length-le}
-use lib.Seq.{take-append-le, take-suc-set, take-take, take-set-le, take-suc, drop-append-le, length-take-le, slice, slice-cons, slice-empty, drop-nil}
+use lib.ListN.{length, take, getD, set, length-set, length-append, length-take, drop-of-length-le}
+use lib.Seq.{take-append-le, take-suc-set, take-take, take-set-le, take-suc, drop-append-le, length-take-le, slice-cons, slice-empty}
 use Rattle.text.specs.Cells.{Cell, cell, cells, part}
 use Rattle.text.specs.Writes.{Holds, Appends}
 

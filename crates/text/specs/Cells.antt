@@ -9,8 +9,7 @@
 --   cell, cells     in code: a byte in a slice of bytes and a number in a slice of numbers
 --   part a e x      the cells from place a up to place e
 -- Assumes nothing.
-use mathlib.Core.Path.{_≡_}
-use Prim.Native.Nat.{ℕ, suc, _+_, _-_, _/_, _%_}
+use Prim.Native.Nat.{ℕ, suc, _-_, _/_, _%_}
 use mathlib.Core.Bool.{Bool, true, false, cond, _||_}
 use mathlib.Core.List.{List, [], _∷_, map}
 use lib.ListN.{take, drop}

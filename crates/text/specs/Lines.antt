@@ -4,7 +4,6 @@
 --   lines x                    the lines, without their line feeds; a line feed at the very end starts no line
 --   joined ls                  lines joined by line feeds, which a rule writes
 -- Assumes nothing.
-use Prim.Native.Nat.{ℕ}
 use mathlib.Core.Bool.{Bool, true, false, cond, _&&_}
 use mathlib.Core.List.{List, [], _∷_, _++_}
 use lib.Dec.{eqb}

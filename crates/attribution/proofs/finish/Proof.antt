@@ -1,17 +1,8 @@
 use borrow.Author.Needs.{needs}
-use native.Mathlib.Omega.{arith}
-use mathlib.Core.Path.{_≡_, refl, sym, ap, _∙_}
-use Prim.Native.Nat.{ℕ, suc, _+_, _-_, _≤_, _<_}
-use mathlib.Core.List.{List, [], _∷_, _++_}
-use lib.ListN.{length, getD}
+use Prim.Native.Nat.{_-_}
 use Rattle.attribution.proofs.Formatting.{counted, all-listed}
 use Rattle.attribution.proofs.finish.Statement.{statement}
 use Rattle.attribution.proofs.finish.Tie as tie
-use Rattle.attribution.proofs.finish.Reads as reads
-use Rattle.attribution.proofs.finish.Lts as lts
-use Rattle.attribution_losses.proofs.loss.put_losses.Reads as put-losses-reads
-use Rattle.text.proofs.zero.zero32.Reads as zero32-reads
-use Rattle.text.proofs.zero.zero8.Reads as zero8-reads
 
 -- src/lib.rt:88:9
 put-losses-requires : tie.Need-put-losses-requires

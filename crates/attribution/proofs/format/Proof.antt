@@ -1,18 +1,9 @@
 use borrow.Author.Needs.{needs}
 use native.Mathlib.Omega.{arith}
-use mathlib.Core.Path.{_≡_, refl, sym, ap, _∙_}
-use Prim.Native.Nat.{ℕ, suc, _+_, _-_, _≤_, _<_}
-use mathlib.Core.List.{List, [], _∷_, _++_}
-use lib.ListN.{length, getD}
+use Prim.Native.Nat.{_-_}
 use Rattle.attribution.proofs.Formatting.{too-many, bytes-short, no-space, done}
 use Rattle.attribution.proofs.format.Statement.{statement}
 use Rattle.attribution.proofs.format.Tie as tie
-use Rattle.attribution.proofs.format.Reads as reads
-use Rattle.attribution.proofs.format.Lts as lts
-use Rattle.attribution.proofs.finish.Reads as finish-reads
-use Rattle.attribution.proofs.refuse.Reads as refuse-reads
-use Rattle.attribution.proofs.set_caption.Reads as set-caption-reads
-use Rattle.attribution_losses.proofs.loss.count_losses.Reads as count-losses-reads
 
 -- src/lib.rt:108:9
 count-losses-requires : tie.Need-count-losses-requires

@@ -1,18 +1,11 @@
 use borrow.Author.Needs.{needs}
 use native.Mathlib.Omega.{arith}
-use mathlib.Core.Path.{_≡_, refl, sym, ap, _∙_}
-use Prim.Native.Nat.{ℕ, suc, _+_, _-_, _≤_, _<_}
-use mathlib.Core.List.{List, [], _∷_, _++_}
-use lib.ListN.{length, getD}
+use mathlib.Core.Path.{sym, _∙_}
+use Prim.Native.Nat.{_-_}
 use Rattle.lending.proofs.Sizes.{enough}
 use Rattle.attribution.proofs.Formatting.{numbered-refused, numbered-fine}
 use Rattle.attribution.proofs.format_listed.Statement.{statement}
 use Rattle.attribution.proofs.format_listed.Tie as tie
-use Rattle.attribution.proofs.format_listed.Reads as reads
-use Rattle.attribution.proofs.format_listed.Lts as lts
-use Rattle.attribution.proofs.format.Reads as format-reads
-use Rattle.attribution.proofs.refuse.Reads as refuse-reads
-use Rattle.lending.proofs.lent.check.Reads as check-reads
 
 -- src/lib.rt:134:9
 check-requires : tie.Need-check-requires

@@ -1,15 +1,10 @@
 use borrow.Author.Needs.{needs}
 use native.Mathlib.Omega.{arith}
-use mathlib.Core.Path.{_≡_, refl, sym, ap, _∙_}
-use Prim.Native.Nat.{ℕ, suc, _+_, _-_, _≤_, _<_}
-use mathlib.Core.List.{List, [], _∷_, _++_}
-use lib.ListN.{length, getD}
+use mathlib.Core.Path.{sym}
+use Prim.Native.Nat.{_-_}
 use lib.Seq.{length-take-le}
 use Rattle.attribution.proofs.put_joined.Statement.{statement}
 use Rattle.attribution.proofs.put_joined.Tie as tie
-use Rattle.attribution.proofs.put_joined.Reads as reads
-use Rattle.attribution.proofs.put_joined.Lts as lts
-use Rattle.attribution.proofs.caption.put_caption.Reads as put-caption-reads
 
 slice-aggregate-put-caption : tie.Need-slice-aggregate-put-caption
 slice-aggregate-put-caption c = let a = c .before .before .before .before .args in let pre = c .before .before .before .before .pre in sym (length-take-le (a .n) (a .work .now) (omega arith))

@@ -1,17 +1,9 @@
 use borrow.Author.Needs.{needs}
 use native.Mathlib.Omega.{arith}
-use mathlib.Core.Path.{_≡_, refl, sym, ap, _∙_}
-use Prim.Native.Nat.{ℕ, suc, _+_, _-_, _≤_, _<_}
-use mathlib.Core.List.{List, [], _∷_, _++_}
-use lib.ListN.{length, getD}
+use Prim.Native.Nat.{_-_}
 use Rattle.attribution.proofs.Formatting.{joined-in, texts-behind, not-fitting, caption-held}
 use Rattle.attribution.proofs.set_caption.Statement.{statement}
 use Rattle.attribution.proofs.set_caption.Tie as tie
-use Rattle.attribution.proofs.set_caption.Reads as reads
-use Rattle.attribution.proofs.set_caption.Lts as lts
-use Rattle.attribution.proofs.put_joined.Reads as put-joined-reads
-use Rattle.attribution_losses.proofs.join.join_texts.Reads as join-texts-reads
-use Rattle.text.proofs.source.set_source.Reads as set-source-reads
 
 set-source-requires : tie.Need-set-source-requires
 set-source-requires c κs = search needs

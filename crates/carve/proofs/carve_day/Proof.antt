@@ -1,18 +1,10 @@
 use borrow.Author.Needs.{needs}
-use native.Mathlib.Omega.{arith}
-use mathlib.Core.Path.{_≡_, refl, sym, ap, _∙_}
-use Prim.Native.Nat.{ℕ, suc, _+_, _-_, _≤_, _<_}
-use mathlib.Core.List.{List, [], _∷_, _++_}
-use lib.ListN.{length, getD}
+use mathlib.Core.Path.{sym, ap, _∙_}
+use Prim.Native.Nat.{_-_}
 use Rattle.carve.specs.Counts.{dayCounts}
 use Rattle.day.specs.Day.{numberOfAnswer}
 use Rattle.carve.proofs.carve_day.Statement.{statement}
 use Rattle.carve.proofs.carve_day.Tie as tie
-use Rattle.carve.proofs.carve_day.Reads as reads
-use Rattle.carve.proofs.carve_day.Lts as lts
-use Rattle.carve.proofs.set_counts.Reads as set-counts-reads
-use Rattle.day.proofs.unix_seconds_date.Reads as unix-seconds-date-reads
-use Rattle.lending.proofs.lent.number_of.Reads as number-of-reads
 
 unix-seconds-date-requires : tie.Need-unix-seconds-date-requires
 unix-seconds-date-requires c κs = search needs

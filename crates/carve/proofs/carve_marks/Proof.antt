@@ -1,18 +1,11 @@
 use borrow.Author.Needs.{needs}
 use native.Mathlib.Omega.{arith}
-use mathlib.Core.Path.{_≡_, refl, sym, ap, _∙_}
-use Prim.Native.Nat.{ℕ, suc, _+_, _-_, _≤_, _<_}
-use mathlib.Core.List.{List, [], _∷_, _++_}
-use lib.ListN.{length, getD}
+use mathlib.Core.Path.{refl, sym, _∙_}
+use Prim.Native.Nat.{_-_}
 use Rattle.carve.proofs.Bounds.{marks-small}
 use Rattle.carve.proofs.Reporting.{reports}
 use Rattle.carve.proofs.carve_marks.Statement.{statement}
 use Rattle.carve.proofs.carve_marks.Tie as tie
-use Rattle.carve.proofs.carve_marks.Reads as reads
-use Rattle.carve.proofs.carve_marks.Lts as lts
-use Rattle.carve.proofs.set_counts.Reads as set-counts-reads
-use Rattle.marks.proofs.convert_marks.Reads as convert-marks-reads
-use Rattle.lending.proofs.lent.number_of.Reads as number-of-reads
 
 convert-marks-requires : tie.Need-convert-marks-requires
 convert-marks-requires c κs = search needs

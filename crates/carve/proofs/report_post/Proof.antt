@@ -1,15 +1,10 @@
 use borrow.Author.Needs.{needs}
-use native.Mathlib.Omega.{arith}
-use mathlib.Core.Path.{_≡_, refl, sym, ap, _∙_}
-use Prim.Native.Nat.{ℕ, suc, _+_, _-_, _*_, _≤_, _<_}
-use mathlib.Core.List.{List, [], _∷_, _++_}
-use lib.ListN.{length, getD}
+use mathlib.Core.Path.{refl}
+use Prim.Native.Nat.{_-_}
 use Rattle.post.specs.Calls as Post
 use Rattle.carve.proofs.Reporting.{reported, countable}
 use Rattle.carve.proofs.report_post.Statement.{statement}
 use Rattle.carve.proofs.report_post.Tie as tie
-use Rattle.carve.proofs.report_post.Reads as reads
-use Rattle.carve.proofs.report_post.Lts as lts
 
 enum-known-answer : tie.Need-enum-known-answer
 enum-known-answer c = search needs

@@ -1,17 +1,9 @@
 use borrow.Author.Needs.{needs}
-use native.Mathlib.Omega.{arith}
-use mathlib.Core.Path.{_≡_, refl, sym, ap, _∙_}
-use Prim.Native.Nat.{ℕ, suc, _+_, _-_, _≤_, _<_}
-use mathlib.Core.List.{List, [], _∷_, _++_}
-use lib.ListN.{length, getD}
+use mathlib.Core.Path.{sym, _∙_}
+use Prim.Native.Nat.{_-_}
 use Rattle.day.proofs.Laws.{dated-short, dated-no, dated-yes}
 use Rattle.day.proofs.unix_seconds_date.Statement.{statement}
 use Rattle.day.proofs.unix_seconds_date.Tie as tie
-use Rattle.day.proofs.unix_seconds_date.Reads as reads
-use Rattle.day.proofs.unix_seconds_date.Lts as lts
-use Rattle.day.proofs.is_seconds.Reads as is-seconds-reads
-use Rattle.day.proofs.write_day.Reads as write-day-reads
-use Rattle.text.proofs.zero.zero8.Reads as zero8-reads
 
 zero8-requires : tie.Need-zero8-requires
 zero8-requires c κs = search needs

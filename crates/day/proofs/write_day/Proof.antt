@@ -1,18 +1,10 @@
 use borrow.Author.Needs.{needs}
 use native.Mathlib.Omega.{arith}
-use mathlib.Core.Path.{_≡_, refl, sym, ap, _∙_}
-use Prim.Native.Nat.{ℕ, suc, _+_, _-_, _≤_, _<_}
-use mathlib.Core.List.{List, [], _∷_, _++_}
-use lib.ListN.{length, getD}
+use Prim.Native.Nat.{_-_}
 use Prim.Native.Nat.{_/_}
 use Rattle.day.proofs.Laws.{seconds-are, date-small, day-written}
 use Rattle.day.proofs.write_day.Statement.{statement}
 use Rattle.day.proofs.write_day.Tie as tie
-use Rattle.day.proofs.write_day.Reads as reads
-use Rattle.day.proofs.write_day.Lts as lts
-use Rattle.day.proofs.date_after.Reads as date-after-reads
-use Rattle.day.proofs.seconds_of.Reads as seconds-of-reads
-use Rattle.day.proofs.write_date.Reads as write-date-reads
 
 seconds-of-requires : tie.Need-seconds-of-requires
 seconds-of-requires c κs = seconds-are _ (c .before .before .pre .0)

@@ -1,8 +1,7 @@
 use borrow.Author.Needs.{needs}
 use native.Mathlib.Omega.{arith}
-use mathlib.Core.Path.{_≡_, refl, sym, ap, _∙_}
-use Prim.Native.Nat.{ℕ, suc, _+_, _-_, _≤_, _<_}
-use mathlib.Core.List.{List, [], _∷_, _++_}
+use mathlib.Core.Path.{_≡_}
+use Prim.Native.Nat.{_+_, _-_, _≤_}
 use lib.ListN.{length, getD}
 use lib.ListN.{drop}
 use lib.Dec.{eqb}
@@ -10,9 +9,6 @@ use Rattle.listing.proofs.Laws.{copied-turn, copied-end, one-at-most}
 use Rattle.listing.specs.Listing.{copied}
 use Rattle.listing.proofs.count_copied.Statement.{statement}
 use Rattle.listing.proofs.count_copied.Tie as tie
-use Rattle.listing.proofs.count_copied.Reads as reads
-use Rattle.listing.proofs.count_copied.Lts as lts
-use Rattle.listing.proofs.is_copied.Reads as is-copied-reads
 
 abbrev Inv-loop : tie.InvT-loop
 Inv-loop origins i₀ n₀ i n = (i ≤ length origins) × (n ≤ i) × (copied origins ≡ n + copied (drop i origins))

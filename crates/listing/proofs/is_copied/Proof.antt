@@ -1,14 +1,8 @@
-use borrow.Author.Needs.{needs}
-use native.Mathlib.Omega.{arith}
-use mathlib.Core.Path.{_≡_, refl, sym, ap, _∙_}
-use Prim.Native.Nat.{ℕ, suc, _+_, _-_, _≤_, _<_}
-use mathlib.Core.List.{List, [], _∷_, _++_}
-use lib.ListN.{length, getD}
+use mathlib.Core.Path.{sym}
+use Prim.Native.Nat.{_-_}
 use Rattle.text.proofs.Decide.{decide}
 use Rattle.listing.proofs.is_copied.Statement.{statement}
 use Rattle.listing.proofs.is_copied.Tie as tie
-use Rattle.listing.proofs.is_copied.Reads as reads
-use Rattle.listing.proofs.is_copied.Lts as lts
 
 -- src/lib.rt:59:9
 returns : tie.Need-returns

@@ -1,9 +1,8 @@
 use borrow.Author.Needs.{needs}
 use native.Mathlib.Omega.{arith}
-use mathlib.Core.Path.{_≡_, refl, sym, ap, _∙_}
-use Prim.Native.Nat.{ℕ, suc, _+_, _-_, _≤_, _<_}
-use mathlib.Core.List.{List, [], _∷_, _++_}
-use lib.ListN.{length, getD}
+use mathlib.Core.Path.{_≡_, refl}
+use Prim.Native.Nat.{_-_, _≤_}
+use lib.ListN.{length}
 use lib.ListN.{drop}
 use mathlib.Core.List.{map}
 use Rattle.text.proofs.Writing.{Writing, start, more as go-on, done}
@@ -12,9 +11,6 @@ use Rattle.listing.proofs.Laws.{escaped-turn, escaped-end}
 use Rattle.listing.specs.Listing.{escaped}
 use Rattle.listing.proofs.put_escaped.Statement.{statement}
 use Rattle.listing.proofs.put_escaped.Tie as tie
-use Rattle.listing.proofs.put_escaped.Reads as reads
-use Rattle.listing.proofs.put_escaped.Lts as lts
-use Rattle.listing.proofs.put_byte.Reads as put-byte-reads
 
 abbrev Inv-loop : tie.InvT-loop
 Inv-loop src buf₀ nums₀ i₀ to₀ buf nums i to = (i ≤ length src) × (length buf ≡ length buf₀) × (length nums ≡ length nums₀)

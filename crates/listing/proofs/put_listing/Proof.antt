@@ -1,15 +1,11 @@
 use borrow.Author.Needs.{needs}
 use native.Mathlib.Omega.{arith}
-use mathlib.Core.Path.{_≡_, refl, sym, ap, _∙_}
-use Prim.Native.Nat.{ℕ, suc, _+_, _-_, _*_, _≤_, _<_}
-use mathlib.Core.List.{List, [], _∷_, _++_}
-use lib.ListN.{length, getD}
+use mathlib.Core.Path.{sym}
+use Prim.Native.Nat.{_-_}
 use lib.Seq.{length-take-le}
 use Rattle.listing.proofs.Laws.{adds-listing}
 use Rattle.listing.proofs.put_listing.Statement.{statement}
 use Rattle.listing.proofs.put_listing.Tie as tie
-use Rattle.listing.proofs.put_listing.Reads as reads
-use Rattle.listing.proofs.put_listing.Lts as lts
 
 count-copied-requires : tie.Need-count-copied-requires
 count-copied-requires c κs = search needs

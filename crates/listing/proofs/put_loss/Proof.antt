@@ -1,16 +1,8 @@
 use borrow.Author.Needs.{needs}
-use native.Mathlib.Omega.{arith}
-use mathlib.Core.Path.{_≡_, refl, sym, ap, _∙_}
-use Prim.Native.Nat.{ℕ, suc, _+_, _-_, _≤_, _<_}
-use mathlib.Core.List.{List, [], _∷_, _++_}
-use lib.ListN.{length, getD}
+use Prim.Native.Nat.{_-_}
 use Rattle.listing.proofs.Laws.{adds-loss}
 use Rattle.listing.proofs.put_loss.Statement.{statement}
 use Rattle.listing.proofs.put_loss.Tie as tie
-use Rattle.listing.proofs.put_loss.Reads as reads
-use Rattle.listing.proofs.put_loss.Lts as lts
-use Rattle.listing.proofs.put_field.Reads as put-field-reads
-use Rattle.listing.proofs.put_number.Reads as put-number-reads
 
 -- src/lib.rt:113:24
 slice-aggregate-put-number : tie.Need-slice-aggregate-put-number

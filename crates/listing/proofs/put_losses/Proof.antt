@@ -1,9 +1,8 @@
 use borrow.Author.Needs.{needs}
 use native.Mathlib.Omega.{arith}
-use mathlib.Core.Path.{_≡_, refl, sym, ap, _∙_}
-use Prim.Native.Nat.{ℕ, suc, _+_, _-_, _*_, _≤_, _<_}
-use mathlib.Core.List.{List, [], _∷_, _++_}
-use lib.ListN.{length, getD}
+use mathlib.Core.Path.{_≡_, refl}
+use Prim.Native.Nat.{_-_, _≤_}
+use lib.ListN.{length}
 use mathlib.Core.List.{map}
 use lib.ListN.{take, drop}
 use Rattle.text.proofs.Writing.{Writing, start, more as go-on, done}
@@ -12,8 +11,6 @@ use Rattle.listing.specs.Listing.{lossLines}
 use Rattle.listing.proofs.Laws.{losses-turn, losses-end}
 use Rattle.listing.proofs.put_losses.Statement.{statement}
 use Rattle.listing.proofs.put_losses.Tie as tie
-use Rattle.listing.proofs.put_losses.Reads as reads
-use Rattle.listing.proofs.put_losses.Lts as lts
 
 abbrev Inv-loop : tie.InvT-loop
 Inv-loop count words buf₀ nums₀ records i₀ to₀ buf nums i to = (i ≤ count) × (length buf ≡ length buf₀) × (length nums ≡ length nums₀)

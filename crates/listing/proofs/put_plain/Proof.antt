@@ -1,9 +1,8 @@
 use borrow.Author.Needs.{needs}
 use native.Mathlib.Omega.{arith}
-use mathlib.Core.Path.{_≡_, refl, sym, ap, _∙_}
-use Prim.Native.Nat.{ℕ, suc, _+_, _-_, _≤_, _<_}
-use mathlib.Core.List.{List, [], _∷_, _++_}
-use lib.ListN.{length, getD}
+use mathlib.Core.Path.{_≡_, refl}
+use Prim.Native.Nat.{_-_, _≤_}
+use lib.ListN.{length}
 use lib.ListN.{drop}
 use mathlib.Core.List.{map}
 use Rattle.text.proofs.Writing.{Writing, start, more as go-on, done}
@@ -11,9 +10,6 @@ use Rattle.text.specs.Cells.{cells, sign}
 use Rattle.listing.proofs.Laws.{plain-turn, plain-end}
 use Rattle.listing.proofs.put_plain.Statement.{statement}
 use Rattle.listing.proofs.put_plain.Tie as tie
-use Rattle.listing.proofs.put_plain.Reads as reads
-use Rattle.listing.proofs.put_plain.Lts as lts
-use Rattle.text.proofs.write.put_sign.Reads as put-sign-reads
 
 abbrev Inv-loop : tie.InvT-loop
 Inv-loop src buf₀ nums₀ i₀ to₀ buf nums i to = (i ≤ length src) × (length buf ≡ length buf₀) × (length nums ≡ length nums₀)

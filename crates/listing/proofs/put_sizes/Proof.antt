@@ -1,15 +1,8 @@
 use borrow.Author.Needs.{needs}
-use native.Mathlib.Omega.{arith}
-use mathlib.Core.Path.{_≡_, refl, sym, ap, _∙_}
-use Prim.Native.Nat.{ℕ, suc, _+_, _-_, _≤_, _<_}
-use mathlib.Core.List.{List, [], _∷_, _++_}
-use lib.ListN.{length, getD}
+use Prim.Native.Nat.{_-_}
 use Rattle.listing.proofs.Laws.{adds-sizes}
 use Rattle.listing.proofs.put_sizes.Statement.{statement}
 use Rattle.listing.proofs.put_sizes.Tie as tie
-use Rattle.listing.proofs.put_sizes.Reads as reads
-use Rattle.listing.proofs.put_sizes.Lts as lts
-use Rattle.listing.proofs.put_number.Reads as put-number-reads
 
 -- src/lib.rt:154:24
 slice-aggregate-put-number : tie.Need-slice-aggregate-put-number

@@ -1,22 +1,11 @@
 use borrow.Author.Needs.{needs}
 use native.Mathlib.Omega.{arith}
-use mathlib.Core.Path.{_≡_, refl, sym, ap, _∙_}
-use Prim.Native.Nat.{ℕ, suc, _+_, _-_, _≤_, _<_}
-use mathlib.Core.List.{List, [], _∷_, _++_}
-use lib.ListN.{length, getD}
-use lib.ListN.{take}
+use mathlib.Core.Path.{refl}
+use Prim.Native.Nat.{_-_}
 use Rattle.text.proofs.Sources.{source-part}
 use Rattle.lists.proofs.Conversion.{called-deep, called-full, called-done, passed-up}
-use Rattle.text.specs.Cells.{cells}
 use Rattle.lists.proofs.convert.Statement.{statement}
 use Rattle.lists.proofs.convert.Tie as tie
-use Rattle.lists.proofs.convert.Reads as reads
-use Rattle.lists.proofs.convert.Lts as lts
-use Rattle.text.proofs.write.lay_part.Reads as lay-part-reads
-use Rattle.list_steps.proofs.pass.list_pass.Reads as list-pass-reads
-use Rattle.lists.proofs.refuse.Reads as refuse-reads
-use Rattle.text.proofs.source.set_source.Reads as set-source-reads
-use Rattle.text.proofs.blank.number.Reads as number-reads
 
 add-end : tie.Need-add-end
 add-end c = search needs

@@ -1,16 +1,12 @@
 use borrow.Author.Needs.{needs}
 use native.Mathlib.Omega.{arith}
-use mathlib.Core.Path.{_≡_, refl, sym, ap, _∙_}
-use Prim.Native.Nat.{ℕ, suc, _+_, _-_, _≤_, _<_}
-use mathlib.Core.List.{List, [], _∷_, _++_}
-use lib.ListN.{length, getD}
+use mathlib.Core.Path.{sym}
+use Prim.Native.Nat.{_+_, _-_}
+use lib.ListN.{length}
 use Prim.Native.Nat.{_*_}
 use lib.Seq.{length-take-le}
 use Rattle.lists.proofs.convert_in.Statement.{statement}
 use Rattle.lists.proofs.convert_in.Tie as tie
-use Rattle.lists.proofs.convert_in.Reads as reads
-use Rattle.lists.proofs.convert_in.Lts as lts
-use Rattle.lists.proofs.convert.Reads as convert-reads
 
 mul-used : tie.Need-mul-used
 mul-used c = search needs

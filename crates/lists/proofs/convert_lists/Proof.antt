@@ -1,18 +1,11 @@
 use borrow.Author.Needs.{needs}
 use native.Mathlib.Omega.{arith}
-use mathlib.Core.Path.{_≡_, refl, sym, ap, _∙_}
-use Prim.Native.Nat.{ℕ, suc, _+_, _-_, _≤_, _<_}
-use mathlib.Core.List.{List, [], _∷_, _++_}
-use lib.ListN.{length, getD}
+use mathlib.Core.Path.{sym, _∙_}
+use Prim.Native.Nat.{_-_}
 use Rattle.lists.proofs.Conversion.{called-refused, called-fine}
 use Rattle.lending.proofs.Sizes.{enough}
 use Rattle.lists.proofs.convert_lists.Statement.{statement}
 use Rattle.lists.proofs.convert_lists.Tie as tie
-use Rattle.lists.proofs.convert_lists.Reads as reads
-use Rattle.lists.proofs.convert_lists.Lts as lts
-use Rattle.lists.proofs.convert_in.Reads as convert-in-reads
-use Rattle.lists.proofs.refuse.Reads as refuse-reads
-use Rattle.lending.proofs.lent.check.Reads as check-reads
 
 check-requires : tie.Need-check-requires
 check-requires c κs = search needs

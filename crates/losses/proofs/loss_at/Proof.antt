@@ -1,14 +1,8 @@
 use borrow.Author.Needs.{needs}
 use borrow.Author.Tests.{lt-ltb, le-ltb}
-use native.Mathlib.Omega.{arith}
-use mathlib.Core.Path.{_≡_, refl, sym, ap, _∙_}
-use Prim.Native.Nat.{ℕ, suc, _+_, _-_, _≤_, _<_}
-use mathlib.Core.List.{List, [], _∷_, _++_}
-use lib.ListN.{length, getD}
+use Prim.Native.Nat.{_-_}
 use Rattle.losses.proofs.loss_at.Statement.{statement}
 use Rattle.losses.proofs.loss_at.Tie as tie
-use Rattle.losses.proofs.loss_at.Reads as reads
-use Rattle.losses.proofs.loss_at.Lts as lts
 
 -- src/lib.rt:25:17
 mul-k : tie.Need-mul-k

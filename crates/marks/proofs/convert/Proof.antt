@@ -1,17 +1,9 @@
 use borrow.Author.Needs.{needs}
 use native.Mathlib.Omega.{arith}
-use mathlib.Core.Path.{_≡_, refl, sym, ap, _∙_}
-use Prim.Native.Nat.{ℕ, suc, _+_, _-_, _≤_, _<_}
-use mathlib.Core.List.{List, [], _∷_, _++_}
-use lib.ListN.{length, getD}
+use Prim.Native.Nat.{_-_}
 use Rattle.marks.proofs.Conversion.{converted-full, spans-fit, converted-done}
 use Rattle.marks.proofs.convert.Statement.{statement}
 use Rattle.marks.proofs.convert.Tie as tie
-use Rattle.marks.proofs.convert.Reads as reads
-use Rattle.marks.proofs.convert.Lts as lts
-use Rattle.marks.proofs.leave.leave.Reads as leave-reads
-use Rattle.marks.proofs.pass.write_marks.Reads as write-marks-reads
-use Rattle.marks.proofs.refuse.Reads as refuse-reads
 
 write-marks-requires : tie.Need-write-marks-requires
 write-marks-requires c κs = search needs

@@ -1,18 +1,11 @@
 use borrow.Author.Needs.{needs}
 use native.Mathlib.Omega.{arith}
-use mathlib.Core.Path.{_≡_, refl, sym, ap, _∙_}
-use Prim.Native.Nat.{ℕ, suc, _+_, _-_, _≤_, _<_}
-use mathlib.Core.List.{List, [], _∷_, _++_}
-use lib.ListN.{length, getD}
+use mathlib.Core.Path.{sym, _∙_}
+use Prim.Native.Nat.{_-_}
 use Rattle.marks.proofs.Conversion.{called-refused, called-fine, spans-enough}
 use Rattle.lending.proofs.Sizes.{enough}
 use Rattle.marks.proofs.convert_marks.Statement.{statement}
 use Rattle.marks.proofs.convert_marks.Tie as tie
-use Rattle.marks.proofs.convert_marks.Reads as reads
-use Rattle.marks.proofs.convert_marks.Lts as lts
-use Rattle.marks.proofs.convert.Reads as convert-reads
-use Rattle.marks.proofs.refuse.Reads as refuse-reads
-use Rattle.lending.proofs.lent.check.Reads as check-reads
 
 check-requires : tie.Need-check-requires
 check-requires c κs = search needs

@@ -1,15 +1,9 @@
 use borrow.Author.Needs.{needs}
-use native.Mathlib.Omega.{arith}
-use mathlib.Core.Path.{_≡_, refl, sym, ap, _∙_}
-use Prim.Native.Nat.{ℕ, suc, _+_, _-_, _≤_, _<_}
-use mathlib.Core.List.{List, [], _∷_, _++_}
-use lib.ListN.{length, getD}
+use mathlib.Core.Path.{refl}
+use Prim.Native.Nat.{_-_}
 use Rattle.mark_tags.specs.Marks.{spanNumbers}
 use Rattle.marks.proofs.refuse.Statement.{statement}
 use Rattle.marks.proofs.refuse.Tie as tie
-use Rattle.marks.proofs.refuse.Reads as reads
-use Rattle.marks.proofs.refuse.Lts as lts
-use Rattle.marks.proofs.leave.leave.Reads as leave-reads
 
 leave-requires : tie.Need-leave-requires
 leave-requires c κs = search needs

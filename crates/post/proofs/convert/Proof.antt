@@ -1,15 +1,11 @@
 use borrow.Author.Needs.{needs}
 use native.Mathlib.Omega.{arith}
-use mathlib.Core.Path.{_≡_, refl, sym, ap, _∙_}
-use Prim.Native.Nat.{ℕ, suc, _+_, _-_, _*_, _≤_, _<_}
-use mathlib.Core.List.{List, [], _∷_, _++_}
-use lib.ListN.{length, getD}
+use Prim.Native.Nat.{_-_}
+use lib.ListN.{length}
 use Rattle.chain.specs.Post.{marksText}
 use Rattle.post.proofs.Calling.{ends-refused, ends-done, ends-finished, converted-full, converted-done, marks-front, marks-few, refused-noted}
 use Rattle.post.proofs.convert.Statement.{statement}
 use Rattle.post.proofs.convert.Tie as tie
-use Rattle.post.proofs.convert.Reads as reads
-use Rattle.post.proofs.convert.Lts as lts
 
 marks-pass-requires : tie.Need-marks-pass-requires
 marks-pass-requires c κs = search needs

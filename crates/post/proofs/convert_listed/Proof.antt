@@ -1,16 +1,11 @@
 use borrow.Author.Needs.{needs}
-use native.Mathlib.Omega.{arith}
-use mathlib.Core.Path.{_≡_, refl, sym, ap, _∙_}
-use Prim.Native.Nat.{ℕ, suc, _+_, _-_, _*_, _≤_, _<_}
-use mathlib.Core.List.{List, [], _∷_, _++_}
-use lib.ListN.{length, getD}
+use mathlib.Core.Path.{sym, _∙_}
+use Prim.Native.Nat.{_-_}
 use Rattle.lending.proofs.Sizes.{enough}
 use Rattle.post.specs.Calls.{answered}
 use Rattle.post.proofs.Calling.{ends-refused, ends-as, answer-refused, answer-fine, refused-noted}
 use Rattle.post.proofs.convert_listed.Statement.{statement}
 use Rattle.post.proofs.convert_listed.Tie as tie
-use Rattle.post.proofs.convert_listed.Reads as reads
-use Rattle.post.proofs.convert_listed.Lts as lts
 
 check-requires : tie.Need-check-requires
 check-requires c κs = search needs

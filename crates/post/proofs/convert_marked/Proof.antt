@@ -1,9 +1,8 @@
 use borrow.Author.Needs.{needs}
 use native.Mathlib.Omega.{arith}
-use mathlib.Core.Path.{_≡_, refl, sym, ap, _∙_}
-use Prim.Native.Nat.{ℕ, suc, _+_, _-_, _*_, _≤_, _<_}
-use mathlib.Core.List.{List, [], _∷_, _++_}
-use lib.ListN.{length, getD}
+use mathlib.Core.Path.{sym, _∙_}
+use Prim.Native.Nat.{_-_, _*_}
+use lib.ListN.{length}
 use lib.ListN.{take}
 use lib.Seq.{length-take-le, take-take}
 use Rattle.text.specs.Cells.{cells}
@@ -13,8 +12,6 @@ use Rattle.quotes.proofs.Conversion.{spelled-there, records-there, listed-count
 use Rattle.post.proofs.Calling.{ends-refused, ends-as, ends-spelled, marked-by, answer-refused, answer-fine, refused-noted, few-losses, quoting-noted}
 use Rattle.post.proofs.convert_marked.Statement.{statement}
 use Rattle.post.proofs.convert_marked.Tie as tie
-use Rattle.post.proofs.convert_marked.Reads as reads
-use Rattle.post.proofs.convert_marked.Lts as lts
 
 mul-base : tie.Need-mul-base
 mul-base c = search needs

@@ -1,15 +1,11 @@
 use borrow.Author.Needs.{needs}
 use native.Mathlib.Omega.{arith}
-use mathlib.Core.Path.{_≡_, refl, sym, ap, _∙_}
-use Prim.Native.Nat.{ℕ, suc, _+_, _-_, _*_, _≤_, _<_}
-use mathlib.Core.List.{List, [], _∷_, _++_}
-use lib.ListN.{length, getD}
+use mathlib.Core.Path.{sym}
+use Prim.Native.Nat.{_-_}
 use lib.Seq.{length-take-le}
 use Rattle.quote_losses.proofs.Recording.{front-kept, front-long, back-is, same-table, lists-as}
 use Rattle.post.proofs.list_lost.Statement.{statement}
 use Rattle.post.proofs.list_lost.Tie as tie
-use Rattle.post.proofs.list_lost.Reads as reads
-use Rattle.post.proofs.list_lost.Lts as lts
 
 mul-read-lines : tie.Need-mul-read-lines
 mul-read-lines c = search needs

@@ -1,14 +1,9 @@
 use borrow.Author.Needs.{needs}
-use native.Mathlib.Omega.{arith}
-use mathlib.Core.Path.{_≡_, refl, sym, ap, _∙_}
-use Prim.Native.Nat.{ℕ, suc, _+_, _-_, _*_, _≤_, _<_}
-use mathlib.Core.List.{List, [], _∷_, _++_}
-use lib.ListN.{length, getD}
+use mathlib.Core.Path.{refl, _∙_}
+use Prim.Native.Nat.{_-_}
 use Rattle.text.proofs.Clearing.{cleared-all}
 use Rattle.post.proofs.refuse.Statement.{statement}
 use Rattle.post.proofs.refuse.Tie as tie
-use Rattle.post.proofs.refuse.Reads as reads
-use Rattle.post.proofs.refuse.Lts as lts
 
 lay-nothing-requires : tie.Need-lay-nothing-requires
 lay-nothing-requires c κs = search needs

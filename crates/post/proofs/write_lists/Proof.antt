@@ -1,15 +1,11 @@
 use borrow.Author.Needs.{needs}
 use native.Mathlib.Omega.{arith}
-use mathlib.Core.Path.{_≡_, refl, sym, ap, _∙_}
-use Prim.Native.Nat.{ℕ, suc, _+_, _-_, _*_, _≤_, _<_}
-use mathlib.Core.List.{List, [], _∷_, _++_}
-use lib.ListN.{length, getD}
+use mathlib.Core.Path.{refl, _∙_}
+use Prim.Native.Nat.{_-_}
 use borrow.Author.Tests.{lt-ltb, le-ltb}
 use Rattle.post.proofs.Calling.{ends-refused, cleared-taken, listing-deep, listing-full, listing-done}
 use Rattle.post.proofs.write_lists.Statement.{statement}
 use Rattle.post.proofs.write_lists.Tie as tie
-use Rattle.post.proofs.write_lists.Reads as reads
-use Rattle.post.proofs.write_lists.Lts as lts
 
 refuse-requires : tie.Need-refuse-requires
 refuse-requires c κs = search needs

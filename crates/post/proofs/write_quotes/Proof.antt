@@ -1,14 +1,9 @@
 use borrow.Author.Needs.{needs}
 use native.Mathlib.Omega.{arith}
-use mathlib.Core.Path.{_≡_, refl, sym, ap, _∙_}
-use Prim.Native.Nat.{ℕ, suc, _+_, _-_, _*_, _≤_, _<_}
-use mathlib.Core.List.{List, [], _∷_, _++_}
-use lib.ListN.{length, getD}
+use Prim.Native.Nat.{_-_}
 use Rattle.post.proofs.Calling.{ends-refused, ends-as, quoting-full, quoting-done, quoted-there}
 use Rattle.post.proofs.write_quotes.Statement.{statement}
 use Rattle.post.proofs.write_quotes.Tie as tie
-use Rattle.post.proofs.write_quotes.Reads as reads
-use Rattle.post.proofs.write_quotes.Lts as lts
 
 quote-text-requires : tie.Need-quote-text-requires
 quote-text-requires c κs =

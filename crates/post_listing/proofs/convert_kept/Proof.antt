@@ -1,7 +1,7 @@
 -- `post_listing::convert_kept` meets its contract: a walk of its MIR, by hand, with no branch and no loop. Of `bbcode_to_carve` it knows only that it meets its contract.
 -- A local array of records is made, lent as a slice for a lifetime that is made for the call, and comes back. All that is lent is given up for good.
 -- Assumes nothing.
-use mathlib.Core.Path.{_≡_, refl, sym, _∙_, ap, subst}
+use mathlib.Core.Path.{_≡_, refl, sym, ap, subst}
 use Prim.Native.Nat.{ℕ}
 use mathlib.Core.List.{[], _∷_, List, map, map-map}
 use lib.Dec.{lit<}
@@ -15,7 +15,7 @@ use base.Fml.{Lft, Share, GName, Fml, ftrue, flft, flent, fat}
 use prog.Memory.{Memory}
 use prog.Routine.{Routine}
 use prog.Wp.{Heap, Calls, Loops, WpFn, Tables}
-use ghost.Atoms.{Atoms, sem}
+use ghost.Atoms.{Atoms}
 use contract.Monad.{Fun, fact}
 use contract.Running.{givenOf, tables, tablesOf}
 use types.Kit.{Given, ‵, raw, _⊛_, some, later, ⋆, _$_, _∵_, !, qed, by, move, keep, drop, use1, use2, use3, split, join, pick, rewrite, fsplit, fjoin, feqL, suffices, frame, await, done}

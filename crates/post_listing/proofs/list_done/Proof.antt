@@ -1,14 +1,10 @@
 use borrow.Author.Needs.{needs}
-use native.Mathlib.Omega.{arith}
-use mathlib.Core.Path.{_≡_, refl, sym, ap, _∙_}
-use Prim.Native.Nat.{ℕ, suc, _+_, _-_, _*_, _≤_, _<_}
-use mathlib.Core.List.{List, [], _∷_, _++_}
-use lib.ListN.{length, getD}
+use mathlib.Core.Path.{refl}
+use Prim.Native.Nat.{_-_}
+use lib.ListN.{length}
 use Rattle.post_listing.proofs.Laws.{taken, listing-asked, done-listed}
 use Rattle.post_listing.proofs.list_done.Statement.{statement}
 use Rattle.post_listing.proofs.list_done.Tie as tie
-use Rattle.post_listing.proofs.list_done.Reads as reads
-use Rattle.post_listing.proofs.list_done.Lts as lts
 
 least-requires : tie.Need-least-requires
 least-requires c κs = search needs

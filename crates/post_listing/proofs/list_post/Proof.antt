@@ -1,15 +1,10 @@
 use borrow.Author.Needs.{needs}
 use native.Mathlib.Omega.{arith}
-use mathlib.Core.Path.{_≡_, refl, sym, ap, _∙_}
-use Prim.Native.Nat.{ℕ, suc, _+_, _-_, _*_, _≤_, _<_}
-use mathlib.Core.List.{List, [], _∷_, _++_}
-use lib.ListN.{length, getD}
+use Prim.Native.Nat.{_-_}
 use borrow.Author.Tests.{lt-ltb}
 use Rattle.post_listing.proofs.Laws.{too-long, refused-listed, all-listed}
 use Rattle.post_listing.proofs.list_post.Statement.{statement}
 use Rattle.post_listing.proofs.list_post.Tie as tie
-use Rattle.post_listing.proofs.list_post.Reads as reads
-use Rattle.post_listing.proofs.list_post.Lts as lts
 
 slice-aggregate-put-number : tie.Need-slice-aggregate-put-number
 slice-aggregate-put-number c = search needs

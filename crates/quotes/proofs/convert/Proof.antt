@@ -1,9 +1,8 @@
 use borrow.Author.Needs.{needs}
 use native.Mathlib.Omega.{arith}
-use mathlib.Core.Path.{_≡_, refl, sym, ap, _∙_}
-use Prim.Native.Nat.{ℕ, suc, _+_, _-_, _*_, _≤_, _<_}
-use mathlib.Core.List.{List, [], _∷_, _++_}
-use lib.ListN.{length, getD}
+use mathlib.Core.Path.{sym, _∙_}
+use Prim.Native.Nat.{_-_, _*_}
+use lib.ListN.{length}
 use lib.Seq.{length-take-le}
 use Rattle.text.specs.Cells.{cellsOf}
 use Rattle.text.proofs.Copying.{bytes-cellsOf}
@@ -11,12 +10,6 @@ use Rattle.quote_losses.proofs.Recording.{back-long}
 use Rattle.quotes.proofs.Conversion.{spelled-there, records-there, listed-counts, within, converted-by, answers-refused, answers-fine, refused-noted, spaced-noted}
 use Rattle.quotes.proofs.convert.Statement.{statement}
 use Rattle.quotes.proofs.convert.Tie as tie
-use Rattle.quotes.proofs.convert.Reads as reads
-use Rattle.quotes.proofs.convert.Lts as lts
-use Rattle.quotes.proofs.list_own.Reads as list-own-reads
-use Rattle.quotes.proofs.refusal_of.Reads as refusal-of-reads
-use Rattle.quotes.proofs.refuse.Reads as refuse-reads
-use Rattle.quotes.proofs.write_quotes.Reads as write-quotes-reads
 
 mul-base : tie.Need-mul-base
 mul-base c = search needs

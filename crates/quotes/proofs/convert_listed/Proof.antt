@@ -1,19 +1,11 @@
 use borrow.Author.Needs.{needs}
-use native.Mathlib.Omega.{arith}
-use mathlib.Core.Path.{_≡_, refl, sym, ap, _∙_}
-use Prim.Native.Nat.{ℕ, suc, _+_, _-_, _≤_, _<_}
-use mathlib.Core.List.{List, [], _∷_, _++_}
-use lib.ListN.{length, getD}
+use mathlib.Core.Path.{refl, sym, _∙_}
+use Prim.Native.Nat.{_-_}
 use Rattle.lending.proofs.Sizes.{enough}
 use Rattle.quotes.specs.Calls.{answered}
 use Rattle.quotes.proofs.Conversion.{answers-refused, answers-fine, refused-noted}
 use Rattle.quotes.proofs.convert_listed.Statement.{statement}
 use Rattle.quotes.proofs.convert_listed.Tie as tie
-use Rattle.quotes.proofs.convert_listed.Reads as reads
-use Rattle.quotes.proofs.convert_listed.Lts as lts
-use Rattle.quotes.proofs.convert.Reads as convert-reads
-use Rattle.quotes.proofs.refuse.Reads as refuse-reads
-use Rattle.lending.proofs.lent.check.Reads as check-reads
 
 -- src/lib.rt:193:9
 check-requires : tie.Need-check-requires

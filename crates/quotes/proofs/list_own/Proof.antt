@@ -1,17 +1,11 @@
 use borrow.Author.Needs.{needs}
 use native.Mathlib.Omega.{arith}
-use mathlib.Core.Path.{_≡_, refl, sym, ap, _∙_}
-use Prim.Native.Nat.{ℕ, suc, _+_, _-_, _≤_, _<_}
-use mathlib.Core.List.{List, [], _∷_, _++_}
-use lib.ListN.{length, getD}
+use mathlib.Core.Path.{sym}
+use Prim.Native.Nat.{_-_}
 use lib.Seq.{length-take-le}
 use Rattle.quote_losses.proofs.Recording.{front-kept, front-long, back-is, same-table, lists-as}
 use Rattle.quotes.proofs.list_own.Statement.{statement}
 use Rattle.quotes.proofs.list_own.Tie as tie
-use Rattle.quotes.proofs.list_own.Reads as reads
-use Rattle.quotes.proofs.list_own.Lts as lts
-use Rattle.quote_lines.proofs.search.read_lines.Reads as read-lines-reads
-use Rattle.quote_losses.proofs.loss.list_losses.Reads as list-losses-reads
 
 mul-read-lines : tie.Need-mul-read-lines
 mul-read-lines c = search needs

@@ -1,13 +1,6 @@
-use borrow.Author.Needs.{needs}
-use native.Mathlib.Omega.{arith}
-use mathlib.Core.Path.{_≡_, refl, sym, ap, _∙_}
-use Prim.Native.Nat.{ℕ, suc, _+_, _-_, _≤_, _<_}
-use mathlib.Core.List.{List, [], _∷_, _++_}
-use lib.ListN.{length, getD}
+use Prim.Native.Nat.{_-_}
 use Rattle.quotes.proofs.refusal_of.Statement.{statement}
 use Rattle.quotes.proofs.refusal_of.Tie as tie
-use Rattle.quotes.proofs.refusal_of.Reads as reads
-use Rattle.quotes.proofs.refusal_of.Lts as lts
 
 returns : tie.Need-returns
 returns c =

@@ -1,16 +1,9 @@
 use borrow.Author.Needs.{needs}
-use native.Mathlib.Omega.{arith}
-use mathlib.Core.Path.{_≡_, refl, sym, ap, _∙_}
-use Prim.Native.Nat.{ℕ, suc, _+_, _-_, _≤_, _<_}
-use mathlib.Core.List.{List, [], _∷_, _++_}
-use lib.ListN.{length, getD}
+use mathlib.Core.Path.{refl, _∙_}
+use Prim.Native.Nat.{_-_}
 use Rattle.text.proofs.Clearing.{cleared-all}
 use Rattle.quotes.proofs.refuse.Statement.{statement}
 use Rattle.quotes.proofs.refuse.Tie as tie
-use Rattle.quotes.proofs.refuse.Reads as reads
-use Rattle.quotes.proofs.refuse.Lts as lts
-use Rattle.text.proofs.write.lay_nothing.Reads as lay-nothing-reads
-use Rattle.text.proofs.zero.zero8.Reads as zero8-reads
 
 -- src/lib.rt:53:5
 lay-nothing-requires : tie.Need-lay-nothing-requires

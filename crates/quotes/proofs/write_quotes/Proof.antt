@@ -1,20 +1,11 @@
 use borrow.Author.Needs.{needs}
 use native.Mathlib.Omega.{arith}
-use mathlib.Core.Path.{_≡_, refl, sym, ap, _∙_}
-use Prim.Native.Nat.{ℕ, suc, _+_, _-_, _≤_, _<_}
-use mathlib.Core.List.{List, [], _∷_, _++_}
-use lib.ListN.{length, getD}
+use mathlib.Core.Path.{refl, ap, _∙_}
+use Prim.Native.Nat.{_-_}
 use Rattle.quote_blocks.specs.Quotes.{tooDeep}
 use Rattle.quotes.proofs.Conversion.{source-taken, pass-up, written-full, written-done}
 use Rattle.quotes.proofs.write_quotes.Statement.{statement}
 use Rattle.quotes.proofs.write_quotes.Tie as tie
-use Rattle.quotes.proofs.write_quotes.Reads as reads
-use Rattle.quotes.proofs.write_quotes.Lts as lts
-use Rattle.quote_steps.proofs.pass.quote_pass.Reads as quote-pass-reads
-use Rattle.quotes.proofs.lay_result.Reads as lay-result-reads
-use Rattle.quotes.proofs.refuse.Reads as refuse-reads
-use Rattle.text.proofs.blank.number.Reads as number-reads
-use Rattle.text.proofs.source.set_source.Reads as set-source-reads
 
 -- src/lib.rt:127:15
 add-end : tie.Need-add-end

@@ -1,16 +1,8 @@
 use borrow.Author.Needs.{needs}
-use native.Mathlib.Omega.{arith}
-use mathlib.Core.Path.{_≡_, refl, sym, ap, _∙_}
-use Prim.Native.Nat.{ℕ, suc, _+_, _-_, _≤_, _<_}
-use mathlib.Core.List.{List, [], _∷_, _++_}
-use lib.ListN.{length, getD}
+use Prim.Native.Nat.{_-_, _≤_}
+use lib.ListN.{length}
 use Rattle.replay.proofs.replay.Statement.{statement}
 use Rattle.replay.proofs.replay.Tie as tie
-use Rattle.replay.proofs.replay.Reads as reads
-use Rattle.replay.proofs.replay.Lts as lts
-use Rattle.replay.proofs.cases.case_behind.Reads as case-behind-reads
-use Rattle.replay.proofs.print_count.Reads as print-count-reads
-use Rattle.replay.proofs.replay_case.Reads as replay-case-reads
 
 abbrev Inv-loop : tie.InvT-loop
 Inv-loop file at₀ cases₀ equal₀ t6 t7 at cases equal = (equal ≤ cases) × (cases ≤ at) × (at ≤ length file)

@@ -1,14 +1,7 @@
-use borrow.Author.Needs.{needs}
-use native.Mathlib.Omega.{arith}
-use mathlib.Core.Path.{_≡_, refl, sym, ap, _∙_}
-use Prim.Native.Nat.{ℕ, suc, _+_, _-_, _≤_, _<_}
-use mathlib.Core.List.{List, [], _∷_, _++_}
-use lib.ListN.{length, getD}
+use Prim.Native.Nat.{_-_}
 use borrow.Author.Tests.{eq-eqb, ne-eqb}
 use Rattle.attribution.proofs.caption.is_dated.Statement.{statement}
 use Rattle.attribution.proofs.caption.is_dated.Tie as tie
-use Rattle.attribution.proofs.caption.is_dated.Reads as reads
-use Rattle.attribution.proofs.caption.is_dated.Lts as lts
 
 returns : tie.Need-returns
 returns c = let a = c .before .before .before .args in rw (eq-eqb (a .date .size) 0 (c .before .if1 .taken))

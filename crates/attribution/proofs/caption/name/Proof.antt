@@ -1,17 +1,12 @@
 use borrow.Author.Needs.{needs}
-use native.Mathlib.Omega.{arith}
-use mathlib.Core.Path.{_≡_, refl, sym, ap, _∙_}
-use Prim.Native.Nat.{ℕ, suc, _+_, _-_, _≤_, _<_}
-use mathlib.Core.List.{List, [], _∷_, _++_}
-use lib.ListN.{length, getD}
+use mathlib.Core.Path.{sym}
+use Prim.Native.Nat.{_-_}
 use lib.Seq.{length-take-le}
 use native.Mathlib.Nat.{add-sub-cancel-left}
 use borrow.Author.Tests.{eq-eqb, ne-eqb}
 use Rattle.attribution_losses.specs.Captions.{named}
 use Rattle.attribution.proofs.caption.name.Statement.{statement}
 use Rattle.attribution.proofs.caption.name.Tie as tie
-use Rattle.attribution.proofs.caption.name.Reads as reads
-use Rattle.attribution.proofs.caption.name.Lts as lts
 
 -- src/lib.rt:31:9
 slice-aggregate-result : tie.Need-slice-aggregate-result

@@ -1,18 +1,9 @@
 use borrow.Author.Needs.{needs}
-use native.Mathlib.Omega.{arith}
-use mathlib.Core.Path.{_≡_, refl, sym, ap, _∙_}
-use Prim.Native.Nat.{ℕ, suc, _+_, _-_, _≤_, _<_}
-use mathlib.Core.List.{List, [], _∷_, _++_}
-use lib.ListN.{length, getD}
+use Prim.Native.Nat.{_-_}
 use Rattle.attribution.proofs.Captioning.{appends-as, day-shown, none-shown, time-shown, date-shown, both-shown, day-seconds}
 use Rattle.text.proofs.Writing.{appends-none}
 use Rattle.attribution.proofs.caption.put_date.Statement.{statement}
 use Rattle.attribution.proofs.caption.put_date.Tie as tie
-use Rattle.attribution.proofs.caption.put_date.Reads as reads
-use Rattle.attribution.proofs.caption.put_date.Lts as lts
-use Rattle.attribution.proofs.caption.put_both.Reads as put-both-reads
-use Rattle.attribution.proofs.caption.put_bracketed.Reads as put-bracketed-reads
-use Rattle.day.proofs.write_day.Reads as write-day-reads
 
 add-de : tie.Need-add-de
 add-de c = search needs

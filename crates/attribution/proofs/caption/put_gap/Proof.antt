@@ -1,16 +1,9 @@
 use borrow.Author.Needs.{needs}
-use native.Mathlib.Omega.{arith}
-use mathlib.Core.Path.{_≡_, refl, sym, ap, _∙_}
-use Prim.Native.Nat.{ℕ, suc, _+_, _-_, _≤_, _<_}
-use mathlib.Core.List.{List, [], _∷_, _++_}
-use lib.ListN.{length, getD}
+use Prim.Native.Nat.{_-_}
 use Rattle.attribution.proofs.Captioning.{appends-as, gap-written, gap-left, gap-right}
 use Rattle.text.proofs.Writing.{appends-none}
 use Rattle.attribution.proofs.caption.put_gap.Statement.{statement}
 use Rattle.attribution.proofs.caption.put_gap.Tie as tie
-use Rattle.attribution.proofs.caption.put_gap.Reads as reads
-use Rattle.attribution.proofs.caption.put_gap.Lts as lts
-use Rattle.text.proofs.write.put.Reads as put-reads
 
 put-requires : tie.Need-put-requires
 put-requires c κs = search needs

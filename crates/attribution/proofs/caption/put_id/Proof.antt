@@ -1,17 +1,9 @@
 use borrow.Author.Needs.{needs}
-use native.Mathlib.Omega.{arith}
-use mathlib.Core.Path.{_≡_, refl, sym, ap, _∙_}
-use Prim.Native.Nat.{ℕ, suc, _+_, _-_, _≤_, _<_}
-use mathlib.Core.List.{List, [], _∷_, _++_}
-use lib.ListN.{length, getD}
+use Prim.Native.Nat.{_-_}
 use Rattle.attribution.proofs.Captioning.{appends-as, no-id, an-id}
 use Rattle.text.proofs.Writing.{appends-then, appends-none}
 use Rattle.attribution.proofs.caption.put_id.Statement.{statement}
 use Rattle.attribution.proofs.caption.put_id.Tie as tie
-use Rattle.attribution.proofs.caption.put_id.Reads as reads
-use Rattle.attribution.proofs.caption.put_id.Lts as lts
-use Rattle.text.proofs.write.put_sign.Reads as put-sign-reads
-use Rattle.text.proofs.write.put_text.Reads as put-text-reads
 
 returns : tie.Need-returns
 returns c = let a = c .before .before .before .before .args in appends-as (no-id (a .s .now) (a .from) (a .size) (c .if1 .taken)) (appends-none _ _)

@@ -1,21 +1,9 @@
 use borrow.Author.Needs.{needs}
-use native.Mathlib.Omega.{arith}
-use mathlib.Core.Path.{_≡_, refl, sym, ap, _∙_}
-use Prim.Native.Nat.{ℕ, suc, _+_, _-_, _≤_, _<_}
-use mathlib.Core.List.{List, [], _∷_, _++_}
-use lib.ListN.{length, getD}
+use Prim.Native.Nat.{_-_}
 use Rattle.attribution.proofs.Captioning.{appends-as, kept-within, caption-is}
 use Rattle.text.proofs.Writing.{appends-then}
 use Rattle.attribution.proofs.caption.put_pieces.Statement.{statement}
 use Rattle.attribution.proofs.caption.put_pieces.Tie as tie
-use Rattle.attribution.proofs.caption.put_pieces.Reads as reads
-use Rattle.attribution.proofs.caption.put_pieces.Lts as lts
-use Rattle.attribution.proofs.caption.has_more.Reads as has-more-reads
-use Rattle.attribution.proofs.caption.is_dated.Reads as is-dated-reads
-use Rattle.attribution.proofs.caption.name.Reads as name-reads
-use Rattle.attribution.proofs.caption.put_gap.Reads as put-gap-reads
-use Rattle.attribution.proofs.caption.put_rest.Reads as put-rest-reads
-use Rattle.text.proofs.write.put_text.Reads as put-text-reads
 
 is-dated-requires : tie.Need-is-dated-requires
 is-dated-requires c κs = search needs

@@ -1,19 +1,9 @@
 use borrow.Author.Needs.{needs}
-use native.Mathlib.Omega.{arith}
-use mathlib.Core.Path.{_≡_, refl, sym, ap, _∙_}
-use Prim.Native.Nat.{ℕ, suc, _+_, _-_, _≤_, _<_}
-use mathlib.Core.List.{List, [], _∷_, _++_}
-use lib.ListN.{length, getD}
+use Prim.Native.Nat.{_-_}
 use Rattle.attribution.proofs.Captioning.{appends-as, spaced-written, dated-is, id-is, id-shown}
 use Rattle.text.proofs.Writing.{appends-then}
 use Rattle.attribution.proofs.caption.put_rest.Statement.{statement}
 use Rattle.attribution.proofs.caption.put_rest.Tie as tie
-use Rattle.attribution.proofs.caption.put_rest.Reads as reads
-use Rattle.attribution.proofs.caption.put_rest.Lts as lts
-use Rattle.attribution.proofs.caption.is_dated.Reads as is-dated-reads
-use Rattle.attribution.proofs.caption.put_date.Reads as put-date-reads
-use Rattle.attribution.proofs.caption.put_gap.Reads as put-gap-reads
-use Rattle.attribution.proofs.caption.put_id.Reads as put-id-reads
 
 put-date-requires : tie.Need-put-date-requires
 put-date-requires c κs = search needs

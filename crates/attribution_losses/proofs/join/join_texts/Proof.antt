@@ -1,20 +1,12 @@
 use borrow.Author.Needs.{needs}
 use native.Mathlib.Omega.{arith}
-use mathlib.Core.Path.{_≡_, refl, sym, ap, _∙_}
-use Prim.Native.Nat.{ℕ, suc, _+_, _-_, _≤_, _<_}
-use mathlib.Core.List.{List, [], _∷_, _++_}
-use lib.ListN.{length, getD}
+use mathlib.Core.Path.{sym, _∙_}
+use Prim.Native.Nat.{_-_}
 use Rattle.attribution_reading.specs.Places.{bytes}
 use Rattle.attribution_reading.proofs.Fielding.{keeps-inside}
 use Rattle.attribution_losses.proofs.Joining.{Joining, join-start, join-begins, join-room, join-named, join-turn, join-end}
 use Rattle.attribution_losses.proofs.join.join_texts.Statement.{statement}
 use Rattle.attribution_losses.proofs.join.join_texts.Tie as tie
-use Rattle.attribution_losses.proofs.join.join_texts.Reads as reads
-use Rattle.attribution_losses.proofs.join.join_texts.Lts as lts
-use Rattle.attribution_losses.proofs.join.put_more.Reads as put-more-reads
-use Rattle.attribution_reading.proofs.facts.is_name.Reads as is-name-reads
-use Rattle.attribution_reading.proofs.facts.leading_id.Reads as leading-id-reads
-use Rattle.attribution_reading.proofs.reader.read_part.Reads as read-part-reads
 
 abbrev Inv-loop : tie.InvT-loop
 Inv-loop work₀ a e at pos₀ to₀ work pos to = Joining work₀ a (e - a) at work pos to

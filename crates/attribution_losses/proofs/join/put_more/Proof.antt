@@ -1,22 +1,9 @@
 use borrow.Author.Needs.{needs}
 use native.Mathlib.Omega.{arith}
-use mathlib.Core.Path.{_≡_, refl, sym, ap, _∙_}
-use Prim.Native.Nat.{ℕ, suc, _+_, _-_, _≤_, _<_}
-use mathlib.Core.List.{List, [], _∷_, _++_}
-use lib.ListN.{length, getD}
-use mathlib.Core.Bool.{Bool, cond}
-use lib.Dec.{eqb, ltb}
-use borrow.Author.Tests.{eq-eqb, ne-eqb}
+use Prim.Native.Nat.{_-_}
 use Rattle.attribution_losses.proofs.Joining.{put-nothing, put-field, put-first, put-next}
-use Rattle.attribution_losses.proofs.Listing.{puts-none, puts-then, puts-as}
-use Rattle.attribution_reading.specs.Places.{bytes}
-use Rattle.attribution_losses.specs.Captions.{added}
 use Rattle.attribution_losses.proofs.join.put_more.Statement.{statement}
 use Rattle.attribution_losses.proofs.join.put_more.Tie as tie
-use Rattle.attribution_losses.proofs.join.put_more.Reads as reads
-use Rattle.attribution_losses.proofs.join.put_more.Lts as lts
-use Rattle.attribution_losses.proofs.join.put_within.Reads as put-within-reads
-use Rattle.attribution_losses.proofs.loss.put_byte.Reads as put-byte-reads
 
 returns : tie.Need-returns
 returns c = let a = c .before .before .before .args in put-nothing (a .work .now) (a .keylen) (a .from) (a .size) (a .start) (a .at) (c .before .if1 .taken) (c .if2 .taken)

@@ -1,15 +1,8 @@
 use borrow.Author.Needs.{needs}
-use native.Mathlib.Omega.{arith}
-use mathlib.Core.Path.{_≡_, refl, sym, ap, _∙_}
-use Prim.Native.Nat.{ℕ, suc, _+_, _-_, _≤_, _<_}
-use mathlib.Core.List.{List, [], _∷_, _++_}
-use lib.ListN.{length, getD}
+use Prim.Native.Nat.{_-_}
 use Rattle.attribution_losses.proofs.Listing.{no-record, one-record}
 use Rattle.attribution_losses.proofs.loss.close_loss.Statement.{statement}
 use Rattle.attribution_losses.proofs.loss.close_loss.Tie as tie
-use Rattle.attribution_losses.proofs.loss.close_loss.Reads as reads
-use Rattle.attribution_losses.proofs.loss.close_loss.Lts as lts
-use Rattle.attribution_losses.proofs.loss.put_record.Reads as put-record-reads
 
 returns : tie.Need-returns
 returns c = let a = c .before .before .args in no-record (a .records .now) (a .k) (a .quote) (a .line) (a .unnamed) (a .start) (a .end) (c .if1 .taken)

@@ -1,16 +1,10 @@
 use borrow.Author.Needs.{needs}
-use native.Mathlib.Omega.{arith}
-use mathlib.Core.Path.{_≡_, refl, sym, ap, _∙_}
-use Prim.Native.Nat.{ℕ, suc, _+_, _-_, _≤_, _<_}
-use mathlib.Core.List.{List, [], _∷_, _++_}
-use lib.ListN.{length, getD}
+use mathlib.Core.Path.{_∙_}
+use Prim.Native.Nat.{_-_}
 use native.Mathlib.Nat.{zero-add}
 use Rattle.attribution_losses.proofs.Losing.{listed-counts}
 use Rattle.attribution_losses.proofs.loss.count_losses.Statement.{statement}
 use Rattle.attribution_losses.proofs.loss.count_losses.Tie as tie
-use Rattle.attribution_losses.proofs.loss.count_losses.Reads as reads
-use Rattle.attribution_losses.proofs.loss.count_losses.Lts as lts
-use Rattle.attribution_losses.proofs.loss.put_losses.Reads as put-losses-reads
 
 slice-aggregate-put-losses : tie.Need-slice-aggregate-put-losses
 slice-aggregate-put-losses c = search needs

@@ -1,16 +1,12 @@
 use borrow.Author.Needs.{needs}
 use native.Mathlib.Omega.{arith}
-use mathlib.Core.Path.{_≡_, refl, sym, ap, _∙_}
-use Prim.Native.Nat.{ℕ, suc, _+_, _-_, _≤_, _<_}
-use mathlib.Core.List.{List, [], _∷_, _++_}
-use lib.ListN.{length, getD}
+use mathlib.Core.Path.{sym}
+use Prim.Native.Nat.{_+_, _-_}
 use borrow.Author.Tests.{eq-eqb}
 use Rattle.attribution_losses.specs.Lists.{cutSize}
-use Rattle.text.proofs.Decide.{decide, cond-yes}
+use Rattle.text.proofs.Decide.{decide}
 use Rattle.attribution_losses.proofs.loss.cut_size.Statement.{statement}
 use Rattle.attribution_losses.proofs.loss.cut_size.Tie as tie
-use Rattle.attribution_losses.proofs.loss.cut_size.Reads as reads
-use Rattle.attribution_losses.proofs.loss.cut_size.Lts as lts
 
 add-if1 : tie.Need-add-if1
 add-if1 c = search needs

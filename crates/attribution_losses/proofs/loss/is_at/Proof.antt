@@ -1,14 +1,8 @@
-use borrow.Author.Needs.{needs}
-use native.Mathlib.Omega.{arith}
-use mathlib.Core.Path.{_≡_, refl, sym, ap, _∙_}
-use Prim.Native.Nat.{ℕ, suc, _+_, _-_, _≤_, _<_}
-use mathlib.Core.List.{List, [], _∷_, _++_}
-use lib.ListN.{length, getD}
+use mathlib.Core.Path.{sym}
+use Prim.Native.Nat.{_-_}
 use Rattle.text.proofs.Decide.{decide}
 use Rattle.attribution_losses.proofs.loss.is_at.Statement.{statement}
 use Rattle.attribution_losses.proofs.loss.is_at.Tie as tie
-use Rattle.attribution_losses.proofs.loss.is_at.Reads as reads
-use Rattle.attribution_losses.proofs.loss.is_at.Lts as lts
 
 -- src/loss.rt:121:9
 returns : tie.Need-returns

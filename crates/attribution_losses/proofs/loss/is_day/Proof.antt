@@ -1,17 +1,10 @@
 use borrow.Author.Needs.{needs}
 use native.Mathlib.Omega.{arith}
-use mathlib.Core.Path.{_≡_, refl, sym, ap, _∙_}
-use Prim.Native.Nat.{ℕ, suc, _+_, _-_, _≤_, _<_}
-use mathlib.Core.List.{List, [], _∷_, _++_}
-use lib.ListN.{length, getD}
-use native.Mathlib.Nat.{add-sub-cancel-left}
+use mathlib.Core.Path.{_∙_}
+use Prim.Native.Nat.{_-_}
 use Rattle.attribution_losses.proofs.Losing.{day-is}
-use Rattle.attribution_reading.specs.Places.{bytes}
 use Rattle.attribution_losses.proofs.loss.is_day.Statement.{statement}
 use Rattle.attribution_losses.proofs.loss.is_day.Tie as tie
-use Rattle.attribution_losses.proofs.loss.is_day.Reads as reads
-use Rattle.attribution_losses.proofs.loss.is_day.Lts as lts
-use Rattle.day.proofs.is_seconds.Reads as is-seconds-reads
 
 add-end : tie.Need-add-end
 add-end c = let i = c .before .before .pre .inside in omega (arith, i)

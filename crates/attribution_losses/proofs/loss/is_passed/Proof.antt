@@ -1,15 +1,8 @@
-use borrow.Author.Needs.{needs}
-use native.Mathlib.Omega.{arith}
-use mathlib.Core.Path.{_≡_, refl, sym, ap, _∙_}
-use Prim.Native.Nat.{ℕ, suc, _+_, _-_, _≤_, _<_}
-use mathlib.Core.List.{List, [], _∷_, _++_}
-use lib.ListN.{length, getD}
+use Prim.Native.Nat.{_-_}
 use borrow.Author.Tests.{eq-eqb, ne-eqb}
 use Rattle.attribution_losses.specs.Lists.{passedBy}
 use Rattle.attribution_losses.proofs.loss.is_passed.Statement.{statement}
 use Rattle.attribution_losses.proofs.loss.is_passed.Tie as tie
-use Rattle.attribution_losses.proofs.loss.is_passed.Reads as reads
-use Rattle.attribution_losses.proofs.loss.is_passed.Lts as lts
 
 returns : tie.Need-returns
 unfolding passedBy

@@ -1,18 +1,9 @@
 use borrow.Author.Needs.{needs}
-use native.Mathlib.Omega.{arith}
-use mathlib.Core.Path.{_≡_, refl, sym, ap, _∙_}
-use Prim.Native.Nat.{ℕ, suc, _+_, _-_, _≤_, _<_}
-use mathlib.Core.List.{List, [], _∷_, _++_}
-use lib.ListN.{length, getD}
+use Prim.Native.Nat.{_-_}
 use Rattle.attribution_losses.specs.Lists.{usedBy}
 use Rattle.text.proofs.Decide.{asked}
 use Rattle.attribution_losses.proofs.loss.is_used.Statement.{statement}
 use Rattle.attribution_losses.proofs.loss.is_used.Tie as tie
-use Rattle.attribution_losses.proofs.loss.is_used.Reads as reads
-use Rattle.attribution_losses.proofs.loss.is_used.Lts as lts
-use Rattle.attribution_losses.proofs.loss.is_at.Reads as is-at-reads
-use Rattle.attribution_losses.proofs.loss.is_linked.Reads as is-linked-reads
-use Rattle.attribution_losses.proofs.loss.is_shown.Reads as is-shown-reads
 
 -- src/loss.rt:150:8
 is-at-requires : tie.Need-is-at-requires

@@ -1,14 +1,8 @@
 use borrow.Author.Needs.{needs}
-use native.Mathlib.Omega.{arith}
-use mathlib.Core.Path.{_≡_, refl, sym, ap, _∙_}
-use Prim.Native.Nat.{ℕ, suc, _+_, _-_, _≤_, _<_}
-use mathlib.Core.List.{List, [], _∷_, _++_}
-use lib.ListN.{length, getD}
+use Prim.Native.Nat.{_-_}
 use Rattle.attribution_losses.proofs.Listing.{puts-set, puts-past}
 use Rattle.attribution_losses.proofs.loss.put_byte.Statement.{statement}
 use Rattle.attribution_losses.proofs.loss.put_byte.Tie as tie
-use Rattle.attribution_losses.proofs.loss.put_byte.Reads as reads
-use Rattle.attribution_losses.proofs.loss.put_byte.Lts as lts
 
 slice-write-buf : tie.Need-slice-write-buf
 slice-write-buf c = search needs

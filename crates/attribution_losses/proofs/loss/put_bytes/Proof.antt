@@ -1,17 +1,12 @@
 use borrow.Author.Needs.{needs}
 use native.Mathlib.Omega.{arith}
-use mathlib.Core.Path.{_≡_, refl, sym, ap, _∙_}
-use Prim.Native.Nat.{ℕ, suc, _+_, _-_, _≤_, _<_}
-use mathlib.Core.List.{List, [], _∷_, _++_}
-use lib.ListN.{length, getD}
+use mathlib.Core.Path.{_≡_, refl, sym, ap}
+use Prim.Native.Nat.{_+_, _-_, _≤_}
 use Rattle.attribution_losses.proofs.Listing.{puts-none, puts-turn, puts-as, bytes-none}
 use Rattle.attribution_reading.specs.Places.{bytes}
 use Rattle.attribution_losses.specs.Lists.{Puts}
 use Rattle.attribution_losses.proofs.loss.put_bytes.Statement.{statement}
 use Rattle.attribution_losses.proofs.loss.put_bytes.Tie as tie
-use Rattle.attribution_losses.proofs.loss.put_bytes.Reads as reads
-use Rattle.attribution_losses.proofs.loss.put_bytes.Lts as lts
-use Rattle.attribution_losses.proofs.loss.put_byte.Reads as put-byte-reads
 
 abbrev Inv-loop : tie.InvT-loop
 Inv-loop src from size buf₀ at i₀ to₀ buf i to = (i ≤ size) × ((to ≡ at + i) × Puts buf₀ at buf to (bytes src from i))

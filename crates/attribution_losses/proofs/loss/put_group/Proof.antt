@@ -1,20 +1,11 @@
 use borrow.Author.Needs.{needs}
 use native.Mathlib.Omega.{arith}
-use mathlib.Core.Path.{_≡_, refl, sym, ap, _∙_}
-use Prim.Native.Nat.{ℕ, suc, _+_, _-_, _≤_, _<_}
-use mathlib.Core.List.{List, [], _∷_, _++_}
-use lib.ListN.{length, getD}
+use mathlib.Core.Path.{sym, _∙_}
+use Prim.Native.Nat.{_-_}
 use Rattle.attribution_losses.proofs.Losing.{run-here}
 use Rattle.attribution_losses.proofs.Losing.{no-loss, one-loss, run-loss, used-field, lost-field, silent-text, lost-quoted, lost-run, as-quoted, as-run, text-either, size-within}
 use Rattle.attribution_losses.proofs.loss.put_group.Statement.{statement}
 use Rattle.attribution_losses.proofs.loss.put_group.Tie as tie
-use Rattle.attribution_losses.proofs.loss.put_group.Reads as reads
-use Rattle.attribution_losses.proofs.loss.put_group.Lts as lts
-use Rattle.attribution_losses.proofs.loss.cut_size.Reads as cut-size-reads
-use Rattle.attribution_losses.proofs.loss.is_used.Reads as is-used-reads
-use Rattle.attribution_losses.proofs.loss.put_bytes.Reads as put-bytes-reads
-use Rattle.attribution_losses.proofs.loss.put_run.Reads as put-run-reads
-use Rattle.attribution_reading.proofs.reader.read_part.Reads as read-part-reads
 
 read-part-requires : tie.Need-read-part-requires
 read-part-requires c κs = (c .before .before .pre .0, c .before .before .pre .1 .1 .stands .begins (c .before .before .pre .0))

@@ -1,16 +1,9 @@
-use borrow.Author.Needs.{needs}
 use native.Mathlib.Omega.{arith}
-use mathlib.Core.Path.{_≡_, refl, sym, ap, _∙_}
-use Prim.Native.Nat.{ℕ, suc, _+_, _-_, _≤_, _<_}
-use mathlib.Core.List.{List, [], _∷_, _++_}
-use lib.ListN.{length, getD}
+use Prim.Native.Nat.{_-_}
+use lib.ListN.{length}
 use Rattle.attribution_losses.proofs.Losing.{Losing, lose-start, lose-turn, lose-end}
 use Rattle.attribution_losses.proofs.loss.put_groups.Statement.{statement}
 use Rattle.attribution_losses.proofs.loss.put_groups.Tie as tie
-use Rattle.attribution_losses.proofs.loss.put_groups.Reads as reads
-use Rattle.attribution_losses.proofs.loss.put_groups.Lts as lts
-use Rattle.attribution_losses.proofs.loss.close_loss.Reads as close-loss-reads
-use Rattle.attribution_losses.proofs.loss.put_group.Reads as put-group-reads
 
 abbrev Inv-loop : tie.InvT-loop
 Inv-loop s start first fields day ends quote line records₀ count loss-bytes₀ before at₀ i₀ k₀ to₀ records loss-bytes at i k to =

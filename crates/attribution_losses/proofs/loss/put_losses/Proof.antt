@@ -1,21 +1,11 @@
 use borrow.Author.Needs.{needs}
 use native.Mathlib.Omega.{arith}
-use mathlib.Core.Path.{_≡_, refl, sym, ap, _∙_}
-use Prim.Native.Nat.{ℕ, suc, _+_, _-_, _≤_, _<_}
-use mathlib.Core.List.{List, [], _∷_, _++_}
-use lib.ListN.{length, getD}
+use mathlib.Core.Path.{sym, _∙_}
+use Prim.Native.Nat.{_-_}
 use borrow.Author.Tests.{not-true}
 use Rattle.attribution_losses.proofs.Losing.{groups-room, all-listed, none-listed}
 use Rattle.attribution_losses.proofs.loss.put_losses.Statement.{statement}
 use Rattle.attribution_losses.proofs.loss.put_losses.Tie as tie
-use Rattle.attribution_losses.proofs.loss.put_losses.Reads as reads
-use Rattle.attribution_losses.proofs.loss.put_losses.Lts as lts
-use Rattle.attribution_reading.proofs.facts.has_equals.Reads as has-equals-reads
-use Rattle.attribution_reading.proofs.facts.read_facts.Reads as read-facts-reads
-use Rattle.attribution_losses.proofs.loss.is_day.Reads as is-day-reads
-use Rattle.attribution_losses.proofs.loss.is_passed.Reads as is-passed-reads
-use Rattle.attribution_losses.proofs.loss.put_groups.Reads as put-groups-reads
-use Rattle.attribution_losses.proofs.loss.put_passed.Reads as put-passed-reads
 
 has-equals-requires : tie.Need-has-equals-requires
 has-equals-requires c κs = search needs

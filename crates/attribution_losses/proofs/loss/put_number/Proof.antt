@@ -1,14 +1,8 @@
 use borrow.Author.Needs.{needs}
-use native.Mathlib.Omega.{arith}
-use mathlib.Core.Path.{_≡_, refl, sym, ap, _∙_}
-use Prim.Native.Nat.{ℕ, suc, _+_, _-_, _≤_, _<_}
-use mathlib.Core.List.{List, [], _∷_, _++_}
-use lib.ListN.{length, getD}
+use Prim.Native.Nat.{_-_}
 use Rattle.attribution_losses.proofs.Listing.{puts-set, puts-past}
 use Rattle.attribution_losses.proofs.loss.put_number.Statement.{statement}
 use Rattle.attribution_losses.proofs.loss.put_number.Tie as tie
-use Rattle.attribution_losses.proofs.loss.put_number.Reads as reads
-use Rattle.attribution_losses.proofs.loss.put_number.Lts as lts
 
 mul-nums : tie.Need-mul-nums
 mul-nums c = search needs

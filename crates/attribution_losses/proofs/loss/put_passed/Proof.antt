@@ -1,18 +1,10 @@
 use borrow.Author.Needs.{needs}
 use native.Mathlib.Omega.{arith}
-use mathlib.Core.Path.{_≡_, refl, sym, ap, _∙_}
-use Prim.Native.Nat.{ℕ, suc, _+_, _-_, _≤_, _<_}
-use mathlib.Core.List.{List, [], _∷_, _++_}
-use lib.ListN.{length, getD}
+use Prim.Native.Nat.{_-_}
 use Rattle.attribution_reading.specs.Places.{bytes}
 use Rattle.attribution_losses.proofs.Losing.{one-passed, none-passed}
-use Rattle.attribution_losses.proofs.Listing.{lists-none}
 use Rattle.attribution_losses.proofs.loss.put_passed.Statement.{statement}
 use Rattle.attribution_losses.proofs.loss.put_passed.Tie as tie
-use Rattle.attribution_losses.proofs.loss.put_passed.Reads as reads
-use Rattle.attribution_losses.proofs.loss.put_passed.Lts as lts
-use Rattle.attribution_losses.proofs.loss.close_loss.Reads as close-loss-reads
-use Rattle.attribution_losses.proofs.loss.put_bytes.Reads as put-bytes-reads
 
 slice-aggregate-put-bytes : tie.Need-slice-aggregate-put-bytes
 slice-aggregate-put-bytes c = search needs

@@ -1,15 +1,10 @@
 use borrow.Author.Needs.{needs}
 use native.Mathlib.Omega.{arith}
-use mathlib.Core.Path.{_≡_, refl, sym, ap, _∙_}
-use Prim.Native.Nat.{ℕ, suc, _+_, _-_, _≤_, _<_}
-use mathlib.Core.List.{List, [], _∷_, _++_}
-use lib.ListN.{length, getD}
+use mathlib.Core.Path.{refl}
+use Prim.Native.Nat.{_-_}
 use Rattle.attribution_losses.proofs.Listing.{record-put}
 use Rattle.attribution_losses.proofs.loss.put_record.Statement.{statement}
 use Rattle.attribution_losses.proofs.loss.put_record.Tie as tie
-use Rattle.attribution_losses.proofs.loss.put_record.Reads as reads
-use Rattle.attribution_losses.proofs.loss.put_record.Lts as lts
-use Rattle.attribution_losses.proofs.loss.put_number.Reads as put-number-reads
 
 mul-put-number : tie.Need-mul-put-number
 mul-put-number c = search needs

@@ -1,18 +1,9 @@
-use borrow.Author.Needs.{needs}
 use native.Mathlib.Omega.{arith}
-use mathlib.Core.Path.{_≡_, refl, sym, ap, _∙_}
-use Prim.Native.Nat.{ℕ, suc, _+_, _-_, _≤_, _<_}
-use mathlib.Core.List.{List, [], _∷_, _++_}
-use lib.ListN.{length, getD}
+use Prim.Native.Nat.{_-_}
+use lib.ListN.{length}
 use Rattle.attribution_losses.proofs.Losing.{Running, run-start, run-done, run-room, run-turn, run-ends, run-ends-field, run-ends-quoted, as-quoted}
 use Rattle.attribution_losses.proofs.loss.put_run.Statement.{statement}
 use Rattle.attribution_losses.proofs.loss.put_run.Tie as tie
-use Rattle.attribution_losses.proofs.loss.put_run.Reads as reads
-use Rattle.attribution_losses.proofs.loss.put_run.Lts as lts
-use Rattle.attribution_losses.proofs.loss.cut_size.Reads as cut-size-reads
-use Rattle.attribution_losses.proofs.loss.put_byte.Reads as put-byte-reads
-use Rattle.attribution_losses.proofs.loss.put_bytes.Reads as put-bytes-reads
-use Rattle.attribution_reading.proofs.reader.read_part.Reads as read-part-reads
 
 abbrev Inv-loop : tie.InvT-loop
 Inv-loop s start first ends buf₀ before at₀ i₀ to₀ buf at i to = Running s first start buf₀ before i at buf to

@@ -1,15 +1,9 @@
-use borrow.Author.Needs.{needs}
-use native.Mathlib.Omega.{arith}
-use mathlib.Core.Path.{_≡_, refl, sym, ap, _∙_}
-use Prim.Native.Nat.{ℕ, suc, _+_, _-_, _≤_, _<_}
-use mathlib.Core.List.{List, [], _∷_, _++_}
-use lib.ListN.{length, getD}
+use mathlib.Core.Path.{refl, sym}
+use Prim.Native.Nat.{_-_}
 use borrow.Author.Tests.{eq-eqb, ne-eqb}
 use Rattle.text.proofs.Decide.{cond-yes, cond-no}
 use Rattle.attribution_reading.proofs.facts.earlier.Statement.{statement}
 use Rattle.attribution_reading.proofs.facts.earlier.Tie as tie
-use Rattle.attribution_reading.proofs.facts.earlier.Reads as reads
-use Rattle.attribution_reading.proofs.facts.earlier.Lts as lts
 
 -- src/facts.rt:137:9
 returns : tie.Need-returns

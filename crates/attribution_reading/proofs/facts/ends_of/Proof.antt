@@ -2,9 +2,6 @@ use borrow.Author.Needs.{needs}
 use Rattle.attribution_reading.proofs.Texts.{last-lead, by-post, by-id, by-lead, by-none}
 use Rattle.attribution_reading.proofs.facts.ends_of.Statement.{statement}
 use Rattle.attribution_reading.proofs.facts.ends_of.Tie as tie
-use Rattle.attribution_reading.proofs.facts.ends_of.Reads as reads
-use Rattle.attribution_reading.proofs.facts.ends_of.Lts as lts
-use Rattle.attribution_reading.proofs.facts.split_of.Reads as split-of-reads
 
 returns : tie.Need-returns
 returns c = let a = c .before .before .before .before .args in let q = c .before .before .before .before .pre .1 in by-post (a .s .now) (a .last) (a .fields) (q .0) (a .lead) (q .1 .0) (q .1 .1) (c .if1 .taken)

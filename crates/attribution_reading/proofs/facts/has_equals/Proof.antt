@@ -6,9 +6,6 @@ use lib.Dec.{ltb}
 use lib.ListN.{length}
 use Rattle.attribution_reading.proofs.facts.has_equals.Statement.{statement}
 use Rattle.attribution_reading.proofs.facts.has_equals.Tie as tie
-use Rattle.attribution_reading.proofs.facts.has_equals.Reads as reads
-use Rattle.attribution_reading.proofs.facts.has_equals.Lts as lts
-use Rattle.text.proofs.scan.next_byte.Reads as next-byte-reads
 
 next-byte-requires : tie.Need-next-byte-requires
 next-byte-requires c κs = search needs

@@ -1,15 +1,9 @@
 use borrow.Author.Needs.{needs}
-use native.Mathlib.Omega.{arith}
-use mathlib.Core.Path.{_≡_, refl, sym, ap, _∙_}
-use Prim.Native.Nat.{ℕ, suc, _+_, _-_, _≤_, _<_}
-use mathlib.Core.List.{List, [], _∷_, _++_}
-use lib.ListN.{length, getD}
+use mathlib.Core.Path.{sym, _∙_}
+use Prim.Native.Nat.{_-_}
 use Rattle.attribution_reading.proofs.Fielding.{digits-none, digits-some}
 use Rattle.attribution_reading.proofs.facts.is_digits.Statement.{statement}
 use Rattle.attribution_reading.proofs.facts.is_digits.Tie as tie
-use Rattle.attribution_reading.proofs.facts.is_digits.Reads as reads
-use Rattle.attribution_reading.proofs.facts.is_digits.Lts as lts
-use Rattle.day.proofs.all_digits.Reads as all-digits-reads
 
 returns : tie.Need-returns
 returns c = let a = c .before .before .args in sym (digits-none (a .s .now) (c .if1 .taken))

@@ -1,15 +1,9 @@
 use borrow.Author.Needs.{needs}
-use native.Mathlib.Omega.{arith}
-use mathlib.Core.Path.{_≡_, refl, sym, ap, _∙_}
-use Prim.Native.Nat.{ℕ, suc, _+_, _-_, _≤_, _<_}
-use mathlib.Core.List.{List, [], _∷_, _++_}
-use lib.ListN.{length, getD}
+use mathlib.Core.Path.{sym, _∙_}
+use Prim.Native.Nat.{_-_}
 use Rattle.attribution_reading.proofs.Texts.{no-lead-field, no-lead-run, lead-digits}
 use Rattle.attribution_reading.proofs.facts.is_leading.Statement.{statement}
 use Rattle.attribution_reading.proofs.facts.is_leading.Tie as tie
-use Rattle.attribution_reading.proofs.facts.is_leading.Reads as reads
-use Rattle.attribution_reading.proofs.facts.is_leading.Lts as lts
-use Rattle.attribution_reading.proofs.facts.is_digits.Reads as is-digits-reads
 
 returns : tie.Need-returns
 returns c = let a = c .before .before .before .before .before .args in sym (no-lead-run (a .s .now) (a .p) (c .before .before .if1 .taken) (c .if2 .taken))

@@ -1,12 +1,8 @@
 use borrow.Author.Needs.{needs}
-use native.Mathlib.Omega.{arith}
-use mathlib.Core.Path.{_≡_, refl, sym, ap, _∙_}
+use mathlib.Core.Path.{sym}
 use Rattle.attribution_parts.specs.declared.Kind.the-variants.{Name}
 use Rattle.attribution_reading.proofs.facts.is_name.Statement.{statement}
 use Rattle.attribution_reading.proofs.facts.is_name.Tie as tie
-use Rattle.attribution_reading.proofs.facts.is_name.Reads as reads
-use Rattle.attribution_reading.proofs.facts.is_name.Lts as lts
-use Rattle.attribution_reading.proofs.facts.kind_of_part.Reads as kind-of-part-reads
 
 kind-of-part-requires : tie.Need-kind-of-part-requires
 kind-of-part-requires c κs = search needs

@@ -1,15 +1,9 @@
 use borrow.Author.Needs.{needs}
-use native.Mathlib.Omega.{arith}
-use mathlib.Core.Path.{_≡_, refl, sym, ap, _∙_}
-use Prim.Native.Nat.{ℕ, suc, _+_, _-_, _≤_, _<_}
-use mathlib.Core.List.{List, [], _∷_, _++_}
-use lib.ListN.{length, getD}
+use mathlib.Core.Path.{sym, _∙_}
+use Prim.Native.Nat.{_-_}
 use Rattle.attribution_reading.proofs.Fielding.{word-begins, word-other}
 use Rattle.attribution_reading.proofs.facts.is_word.Statement.{statement}
 use Rattle.attribution_reading.proofs.facts.is_word.Tie as tie
-use Rattle.attribution_reading.proofs.facts.is_word.Reads as reads
-use Rattle.attribution_reading.proofs.facts.is_word.Lts as lts
-use Rattle.text.proofs.scan.begins_at.Reads as begins-at-reads
 
 begins-at-requires : tie.Need-begins-at-requires
 begins-at-requires c κs = search needs

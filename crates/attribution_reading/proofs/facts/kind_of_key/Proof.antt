@@ -6,9 +6,6 @@ use Rattle.attribution_parts.specs.declared.Kind.the-variants.{Name, PostId, Id
 use Rattle.attribution_reading.proofs.Fielding.{tells-kind, tells-author, tells-none}
 use Rattle.attribution_reading.proofs.facts.kind_of_key.Statement.{statement}
 use Rattle.attribution_reading.proofs.facts.kind_of_key.Tie as tie
-use Rattle.attribution_reading.proofs.facts.kind_of_key.Reads as reads
-use Rattle.attribution_reading.proofs.facts.kind_of_key.Lts as lts
-use Rattle.attribution_reading.proofs.facts.is_word.Reads as is-word-reads
 
 slice-aggregate-is-word : tie.Need-slice-aggregate-is-word
 slice-aggregate-is-word c = search needs

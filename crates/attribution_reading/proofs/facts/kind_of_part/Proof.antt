@@ -6,10 +6,6 @@ use Rattle.text.proofs.Decide.{cond-yes, cond-no}
 use Rattle.attribution_reading.proofs.Fielding.{some-value, tells-text, tells-part}
 use Rattle.attribution_reading.proofs.facts.kind_of_part.Statement.{statement}
 use Rattle.attribution_reading.proofs.facts.kind_of_part.Tie as tie
-use Rattle.attribution_reading.proofs.facts.kind_of_part.Reads as reads
-use Rattle.attribution_reading.proofs.facts.kind_of_part.Lts as lts
-use Rattle.attribution_reading.proofs.facts.is_digits.Reads as is-digits-reads
-use Rattle.attribution_reading.proofs.facts.kind_of_key.Reads as kind-of-key-reads
 
 returns : tie.Need-returns
 returns c = let a = c .before .before .before .args in tells-text (a .s .now) (a .p) (c .if1 .taken)

@@ -1,17 +1,10 @@
 use borrow.Author.Needs.{needs}
 use native.Mathlib.Omega.{arith}
-use mathlib.Core.Path.{_≡_, refl, sym, ap, _∙_}
-use Prim.Native.Nat.{ℕ, suc, _+_, _-_, _≤_, _<_}
-use mathlib.Core.List.{List, [], _∷_, _++_}
-use lib.ListN.{length, getD}
+use mathlib.Core.Path.{sym, _∙_}
+use Prim.Native.Nat.{_-_}
 use Rattle.attribution_reading.proofs.Texts.{lead-end, lead-unquoted, lead-other, lead-found}
 use Rattle.attribution_reading.proofs.facts.leading_id.Statement.{statement}
 use Rattle.attribution_reading.proofs.facts.leading_id.Tie as tie
-use Rattle.attribution_reading.proofs.facts.leading_id.Reads as reads
-use Rattle.attribution_reading.proofs.facts.leading_id.Lts as lts
-use Rattle.attribution_reading.proofs.facts.is_leading.Reads as is-leading-reads
-use Rattle.attribution_reading.proofs.reader.read_part.Reads as read-part-reads
-use Rattle.attribution_reading.proofs.scan.first_at.Reads as first-at-reads
 
 first-at-requires : tie.Need-first-at-requires
 first-at-requires c κs = search needs

@@ -11,15 +11,6 @@ use Rattle.attribution_reading.proofs.Texts as texts
 use Rattle.attribution_reading.proofs.Texts.{read-start}
 use Rattle.attribution_reading.proofs.facts.read_facts.Statement.{statement}
 use Rattle.attribution_reading.proofs.facts.read_facts.Tie as tie
-use Rattle.attribution_reading.proofs.facts.read_facts.Reads as reads
-use Rattle.attribution_reading.proofs.facts.read_facts.Lts as lts
-use Rattle.attribution_reading.proofs.facts.ends_of.Reads as ends-of-reads
-use Rattle.attribution_reading.proofs.facts.has_equals.Reads as has-equals-reads
-use Rattle.attribution_reading.proofs.facts.last_text.Reads as last-text-reads
-use Rattle.attribution_reading.proofs.facts.leading_id.Reads as leading-id-reads
-use Rattle.attribution_reading.proofs.facts.with_field.Reads as with-field-reads
-use Rattle.attribution_reading.proofs.facts.with_part.Reads as with-part-reads
-use Rattle.attribution_reading.proofs.reader.read_part.Reads as read-part-reads
 
 abbrev Inv-loop : tie.InvT-loop
 Inv-loop s fields₀ lead last₀ i₀ at₀ fields last i at = fielding.Reading s i at fields × texts.Reading s (lead .count) i at last

@@ -1,15 +1,9 @@
 use borrow.Author.Needs.{needs}
 use native.Mathlib.Omega.{arith}
-use mathlib.Core.Path.{_≡_, refl, sym, ap, _∙_}
-use Prim.Native.Nat.{ℕ, suc, _+_, _-_, _≤_, _<_}
-use mathlib.Core.List.{List, [], _∷_, _++_}
-use lib.ListN.{length, getD}
+use Prim.Native.Nat.{_-_}
 use Rattle.attribution_reading.proofs.Texts.{start-within, split-none, split-all, split-some}
 use Rattle.attribution_reading.proofs.facts.split_of.Statement.{statement}
 use Rattle.attribution_reading.proofs.facts.split_of.Tie as tie
-use Rattle.attribution_reading.proofs.facts.split_of.Reads as reads
-use Rattle.attribution_reading.proofs.facts.split_of.Lts as lts
-use Rattle.attribution_reading.proofs.facts.suffix_start.Reads as suffix-start-reads
 
 add-end : tie.Need-add-end
 add-end c = let i = c .before .before .pre .1 .0 .inside in omega (arith, i)

@@ -1,17 +1,13 @@
 use borrow.Author.Needs.{needs}
 use native.Mathlib.Omega.{arith}
-use mathlib.Core.Path.{_≡_, refl, sym, ap, _∙_}
-use Prim.Native.Nat.{ℕ, suc, _+_, _-_, _≤_, _<_}
-use mathlib.Core.List.{List, [], _∷_, _++_}
+use mathlib.Core.Path.{_≡_, sym, _∙_}
+use Prim.Native.Nat.{suc, _-_, _≤_}
 use mathlib.Core.Bool.{true}
-use lib.ListN.{length, getD, drop}
+use lib.ListN.{length, drop}
 use Rattle.text.specs.Ascii.{allDigits}
 use Rattle.attribution_reading.proofs.Suffix.{digits-more, digits-end, digits-only, found, none-other, none-digits}
 use Rattle.attribution_reading.proofs.facts.suffix_start.Statement.{statement}
 use Rattle.attribution_reading.proofs.facts.suffix_start.Tie as tie
-use Rattle.attribution_reading.proofs.facts.suffix_start.Reads as reads
-use Rattle.attribution_reading.proofs.facts.suffix_start.Lts as lts
-use Rattle.text.proofs.scan.is_inside.Reads as is-inside-reads
 
 abbrev Inv-loop : tie.InvT-loop
 Inv-loop s i₀ i = (i ≤ length s) × (allDigits (drop i s) ≡ true)

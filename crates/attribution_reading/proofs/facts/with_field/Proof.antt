@@ -2,10 +2,6 @@ use borrow.Author.Needs.{needs}
 use Rattle.attribution_reading.proofs.Fielding.{step-turned, step-none}
 use Rattle.attribution_reading.proofs.facts.with_field.Statement.{statement}
 use Rattle.attribution_reading.proofs.facts.with_field.Tie as tie
-use Rattle.attribution_reading.proofs.facts.with_field.Reads as reads
-use Rattle.attribution_reading.proofs.facts.with_field.Lts as lts
-use Rattle.attribution_reading.proofs.facts.earlier.Reads as earlier-reads
-use Rattle.attribution_reading.proofs.facts.kind_of_part.Reads as kind-of-part-reads
 
 kind-of-part-requires : tie.Need-kind-of-part-requires
 kind-of-part-requires c κs = search needs

@@ -1,14 +1,9 @@
 use borrow.Author.Needs.{needs}
 use native.Mathlib.Omega.{arith}
-use mathlib.Core.Path.{_≡_, refl, sym, ap, _∙_}
-use Prim.Native.Nat.{ℕ, suc, _+_, _-_, _≤_, _<_}
-use mathlib.Core.List.{List, [], _∷_, _++_}
-use lib.ListN.{length, getD}
+use Prim.Native.Nat.{_-_}
 use Rattle.attribution_reading.proofs.Texts.{step-field, step-empty, step-first, step-more}
 use Rattle.attribution_reading.proofs.facts.with_part.Statement.{statement}
 use Rattle.attribution_reading.proofs.facts.with_part.Tie as tie
-use Rattle.attribution_reading.proofs.facts.with_part.Reads as reads
-use Rattle.attribution_reading.proofs.facts.with_part.Lts as lts
 
 add-t8 : tie.Need-add-t8
 add-t8 c = search needs

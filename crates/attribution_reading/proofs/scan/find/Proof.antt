@@ -1,18 +1,12 @@
 use borrow.Author.Needs.{needs}
 use native.Mathlib.Omega.{arith}
-use mathlib.Core.Path.{_≡_, refl, sym, ap, _∙_}
-use Prim.Native.Nat.{ℕ, suc, _+_, _-_, _≤_, _<_}
-use mathlib.Core.List.{List, [], _∷_, _++_}
-use lib.ListN.{length, getD}
+use Prim.Native.Nat.{_-_}
+use lib.ListN.{length}
 use lib.Dec.{eqb}
-use mathlib.Core.Bool.{not}
 use borrow.Author.Tests.{eq-eqb, ne-eqb}
 use Rattle.text.proofs.Bytes.{Looks, look, look-here, look-on, look-end}
-use Rattle.attribution_parts.specs.Parts.{isSpace, inKey}
 use Rattle.attribution_reading.proofs.scan.find.Statement.{statement}
 use Rattle.attribution_reading.proofs.scan.find.Tie as tie
-use Rattle.attribution_reading.proofs.scan.find.Reads as reads
-use Rattle.attribution_reading.proofs.scan.find.Lts as lts
 
 abbrev Inv-loop : tie.InvT-loop
 Inv-loop s at q i₀ i = Looks (λ b. eqb b q) s at i

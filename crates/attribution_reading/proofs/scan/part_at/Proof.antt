@@ -1,18 +1,10 @@
 use borrow.Author.Needs.{needs}
 use native.Mathlib.Omega.{arith}
-use mathlib.Core.Path.{_≡_, refl, sym, ap, _∙_}
-use Prim.Native.Nat.{ℕ, suc, _+_, _-_, _≤_, _<_}
-use mathlib.Core.List.{List, [], _∷_, _++_}
-use lib.ListN.{length, getD}
+use mathlib.Core.Path.{sym, _∙_}
+use Prim.Native.Nat.{_-_}
 use Rattle.attribution_reading.proofs.Laws.{part-text, part-field, no-start, no-more, no-equals, value-run, key-run, key-unquoted}
 use Rattle.attribution_reading.proofs.scan.part_at.Statement.{statement}
 use Rattle.attribution_reading.proofs.scan.part_at.Tie as tie
-use Rattle.attribution_reading.proofs.scan.part_at.Reads as reads
-use Rattle.attribution_reading.proofs.scan.part_at.Lts as lts
-use Rattle.attribution_reading.proofs.scan.key_end.Reads as key-end-reads
-use Rattle.attribution_reading.proofs.scan.run_value.Reads as run-value-reads
-use Rattle.attribution_reading.proofs.scan.starts_key.Reads as starts-key-reads
-use Rattle.attribution_reading.proofs.scan.value_at.Reads as value-at-reads
 
 shared-slice-read-starts-key : tie.Need-shared-slice-read-starts-key
 shared-slice-read-starts-key c = search needs

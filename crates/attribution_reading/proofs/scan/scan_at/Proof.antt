@@ -1,16 +1,7 @@
-use borrow.Author.Needs.{needs}
-use native.Mathlib.Omega.{arith}
-use mathlib.Core.Path.{_≡_, refl, sym, ap, _∙_}
-use Prim.Native.Nat.{ℕ, suc, _+_, _-_, _≤_, _<_}
-use mathlib.Core.List.{List, [], _∷_, _++_}
-use lib.ListN.{length, getD}
+use Prim.Native.Nat.{_-_}
 use Rattle.attribution_reading.proofs.Laws.{scanned}
 use Rattle.attribution_reading.proofs.scan.scan_at.Statement.{statement}
 use Rattle.attribution_reading.proofs.scan.scan_at.Tie as tie
-use Rattle.attribution_reading.proofs.scan.scan_at.Reads as reads
-use Rattle.attribution_reading.proofs.scan.scan_at.Lts as lts
-use Rattle.attribution_reading.proofs.scan.part_at.Reads as part-at-reads
-use Rattle.attribution_reading.proofs.scan.skip_spaces.Reads as skip-spaces-reads
 
 part-at-requires : tie.Need-part-at-requires
 part-at-requires c κs = c .before .pre .0

@@ -1,19 +1,13 @@
 use borrow.Author.Needs.{needs}
 use native.Mathlib.Omega.{arith}
-use mathlib.Core.Path.{_≡_, refl, sym, ap, _∙_}
-use Prim.Native.Nat.{ℕ, suc, _+_, _-_, _≤_, _<_}
-use mathlib.Core.List.{List, [], _∷_, _++_}
-use lib.ListN.{length, getD}
-use lib.Dec.{eqb}
+use mathlib.Core.Path.{sym, ap, _∙_}
+use Prim.Native.Nat.{_-_}
+use lib.ListN.{length}
 use mathlib.Core.Bool.{not}
-use borrow.Author.Tests.{eq-eqb, ne-eqb}
 use Rattle.text.proofs.Bytes.{Looks, look, look-here, look-on, look-end}
-use Rattle.attribution_parts.specs.Parts.{isSpace, inKey}
+use Rattle.attribution_parts.specs.Parts.{isSpace}
 use Rattle.attribution_reading.proofs.scan.skip_spaces.Statement.{statement}
 use Rattle.attribution_reading.proofs.scan.skip_spaces.Tie as tie
-use Rattle.attribution_reading.proofs.scan.skip_spaces.Reads as reads
-use Rattle.attribution_reading.proofs.scan.skip_spaces.Lts as lts
-use Rattle.attribution_reading.proofs.scan.is_space.Reads as is-space-reads
 
 abbrev Inv-loop : tie.InvT-loop
 Inv-loop s at i₀ i = Looks (λ b. not (isSpace b)) s at i

@@ -1,16 +1,9 @@
 use borrow.Author.Needs.{needs}
 use native.Mathlib.Omega.{arith}
-use mathlib.Core.Path.{_≡_, refl, sym, ap, _∙_}
-use Prim.Native.Nat.{ℕ, suc, _+_, _-_, _≤_, _<_}
-use mathlib.Core.List.{List, [], _∷_, _++_}
-use lib.ListN.{length, getD}
+use Prim.Native.Nat.{_-_}
 use Rattle.attribution_reading.proofs.Laws.{value-run, value-quoted, end-unquoted, other-unquoted, open-unquoted}
 use Rattle.attribution_reading.proofs.scan.value_at.Statement.{statement}
 use Rattle.attribution_reading.proofs.scan.value_at.Tie as tie
-use Rattle.attribution_reading.proofs.scan.value_at.Reads as reads
-use Rattle.attribution_reading.proofs.scan.value_at.Lts as lts
-use Rattle.attribution_reading.proofs.scan.find.Reads as find-reads
-use Rattle.attribution_reading.proofs.scan.run_value.Reads as run-value-reads
 
 -- src/lib.rt:136:17
 shared-slice-read-q : tie.Need-shared-slice-read-q

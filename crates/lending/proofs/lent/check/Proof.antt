@@ -1,18 +1,11 @@
 use borrow.Author.Needs.{needs}
-use native.Mathlib.Omega.{arith}
-use mathlib.Core.Path.{_≡_, refl, sym, ap, _∙_}
-use Prim.Native.Nat.{ℕ, suc, _+_, _-_, _≤_, _<_}
-use mathlib.Core.List.{List, [], _∷_, _++_}
+use mathlib.Core.Path.{sym, _∙_}
+use Prim.Native.Nat.{_-_}
 use Rattle.lending.specs.Lent.{checked}
 use Rattle.text.proofs.Decide.{decide}
 use Rattle.lending.proofs.Lending.{clean-yes, clean-no}
 use Rattle.lending.proofs.lent.check.Statement.{statement}
 use Rattle.lending.proofs.lent.check.Tie as tie
-use Rattle.lending.proofs.lent.check.Reads as reads
-use Rattle.lending.proofs.lent.check.Lts as lts
-use Rattle.lending.proofs.lent.is_clean.Reads as is-clean-reads
-use Rattle.lending.proofs.lent.sizes_right.Reads as sizes-right-reads
-use Rattle.lending.proofs.utf8.is_utf8.Reads as is-utf8-reads
 
 returns : tie.Need-returns
 unfolding checked

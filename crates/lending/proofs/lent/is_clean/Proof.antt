@@ -1,17 +1,11 @@
 use borrow.Author.Needs.{needs}
 use native.Mathlib.Omega.{arith}
-use mathlib.Core.Path.{_≡_, refl, sym, ap, _∙_}
-use Prim.Native.Nat.{ℕ, suc, _+_, _-_, _*_, _≤_, _<_}
-use mathlib.Core.List.{List, [], _∷_, _++_}
+use mathlib.Core.Path.{_≡_, refl, sym, _∙_}
+use Prim.Native.Nat.{_+_, _-_, _*_, _≤_}
 use lib.ListN.{length, drop}
 use Rattle.lending.proofs.Lending.{clean, clean-end, clean-odd, clean-one, clean-bad, char-within, clean-char}
 use Rattle.lending.proofs.lent.is_clean.Statement.{statement}
 use Rattle.lending.proofs.lent.is_clean.Tie as tie
-use Rattle.lending.proofs.lent.is_clean.Reads as reads
-use Rattle.lending.proofs.lent.is_clean.Lts as lts
-use Rattle.lending.proofs.lent.is_zero_or_return.Reads as is-zero-or-return-reads
-use Rattle.lending.proofs.lent.past_clean.Reads as past-clean-reads
-use Rattle.lending.proofs.utf8.char_size.Reads as char-size-reads
 
 abbrev Inv-loop : tie.InvT-loop
 Inv-loop s i₀ e₀ i e = (i ≤ length s) × (clean s ≡ clean (drop i s))

@@ -1,16 +1,10 @@
 use borrow.Author.Needs.{needs}
-use native.Mathlib.Omega.{arith}
-use mathlib.Core.Path.{_≡_, refl, sym, ap, _∙_}
-use Prim.Native.Nat.{ℕ, suc, _+_, _-_, _≤_, _<_}
-use mathlib.Core.List.{List, [], _∷_, _++_}
-use lib.ListN.{length, getD}
+use mathlib.Core.Path.{sym}
+use Prim.Native.Nat.{_-_}
 use Rattle.lending.specs.Lent.{sizesRight}
 use Rattle.text.proofs.Decide.{decide}
 use Rattle.lending.proofs.lent.sizes_right.Statement.{statement}
 use Rattle.lending.proofs.lent.sizes_right.Tie as tie
-use Rattle.lending.proofs.lent.sizes_right.Reads as reads
-use Rattle.lending.proofs.lent.sizes_right.Lts as lts
-use Rattle.lending.proofs.lent.spans_right.Reads as spans-right-reads
 
 -- src/lent.rt:75:9
 returns : tie.Need-returns

@@ -1,14 +1,9 @@
 use borrow.Author.Needs.{needs}
-use native.Mathlib.Omega.{arith}
-use mathlib.Core.Path.{_≡_, refl, sym, ap, _∙_}
-use Prim.Native.Nat.{ℕ, suc, _+_, _-_, _≤_, _<_}
-use mathlib.Core.List.{List, [], _∷_, _++_}
-use lib.ListN.{length, getD}
+use mathlib.Core.Path.{sym, ap}
+use Prim.Native.Nat.{_-_}
 use Rattle.lending.specs.Lent.{spansRight}
 use Rattle.lending.proofs.lent.spans_right.Statement.{statement}
 use Rattle.lending.proofs.lent.spans_right.Tie as tie
-use Rattle.lending.proofs.lent.spans_right.Reads as reads
-use Rattle.lending.proofs.lent.spans_right.Lts as lts
 
 enum-told : tie.Need-enum-told
 enum-told c = search needs

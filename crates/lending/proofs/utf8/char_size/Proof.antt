@@ -1,16 +1,8 @@
 use borrow.Author.Needs.{needs}
-use native.Mathlib.Omega.{arith}
-use mathlib.Core.Path.{_≡_, refl, sym, ap, _∙_}
-use Prim.Native.Nat.{ℕ, suc, _+_, _-_, _≤_, _<_}
-use mathlib.Core.List.{List, [], _∷_, _++_}
-use lib.ListN.{length, getD}
+use Prim.Native.Nat.{_-_}
 use Rattle.lending.proofs.Characters.{char-at}
 use Rattle.lending.proofs.utf8.char_size.Statement.{statement}
 use Rattle.lending.proofs.utf8.char_size.Tie as tie
-use Rattle.lending.proofs.utf8.char_size.Reads as reads
-use Rattle.lending.proofs.utf8.char_size.Lts as lts
-use Rattle.text.proofs.scan.byte_at.Reads as byte-at-reads
-use Rattle.lending.proofs.utf8.size_of.Reads as size-of-reads
 
 shared-slice-read-size-of : tie.Need-shared-slice-read-size-of
 shared-slice-read-size-of c = search needs

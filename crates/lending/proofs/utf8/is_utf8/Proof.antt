@@ -1,16 +1,12 @@
 use borrow.Author.Needs.{needs}
 use native.Mathlib.Omega.{arith}
-use mathlib.Core.Path.{_≡_, refl, sym, ap, _∙_}
-use Prim.Native.Nat.{ℕ, suc, _+_, _-_, _≤_, _<_}
-use mathlib.Core.List.{List, [], _∷_, _++_}
+use mathlib.Core.Path.{_≡_, refl, sym, _∙_}
+use Prim.Native.Nat.{_+_, _-_, _≤_}
 use lib.ListN.{length, drop}
 use Rattle.lending.specs.Utf8.{utf8}
 use Rattle.lending.proofs.Characters.{utf8-bad, utf8-turn, utf8-end}
 use Rattle.lending.proofs.utf8.is_utf8.Statement.{statement}
 use Rattle.lending.proofs.utf8.is_utf8.Tie as tie
-use Rattle.lending.proofs.utf8.is_utf8.Reads as reads
-use Rattle.lending.proofs.utf8.is_utf8.Lts as lts
-use Rattle.lending.proofs.utf8.char_size.Reads as char-size-reads
 
 abbrev Inv-loop : tie.InvT-loop
 Inv-loop s i₀ i = (i ≤ length s) × (utf8 s ≡ utf8 (drop i s))

@@ -1,16 +1,9 @@
 use borrow.Author.Needs.{needs}
-use native.Mathlib.Omega.{arith}
-use mathlib.Core.Path.{_≡_, refl, sym, ap, _∙_}
-use Prim.Native.Nat.{ℕ, suc, _+_, _-_, _≤_, _<_}
-use mathlib.Core.List.{List, [], _∷_, _++_}
-use lib.ListN.{length, getD}
+use Prim.Native.Nat.{_-_}
 use Rattle.lending.specs.Utf8.{utf8-4, tail}
 use Rattle.text.proofs.Decide.{asked}
 use Rattle.lending.proofs.utf8.is_utf8_4.Statement.{statement}
 use Rattle.lending.proofs.utf8.is_utf8_4.Tie as tie
-use Rattle.lending.proofs.utf8.is_utf8_4.Reads as reads
-use Rattle.lending.proofs.utf8.is_utf8_4.Lts as lts
-use Rattle.lending.proofs.utf8.is_four.Reads as is-four-reads
 
 -- src/utf8.rt:64:8
 is-four-requires : tie.Need-is-four-requires

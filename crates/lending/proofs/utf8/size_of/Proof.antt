@@ -1,19 +1,9 @@
 use borrow.Author.Needs.{needs}
-use native.Mathlib.Omega.{arith}
-use mathlib.Core.Path.{_≡_, refl, sym, ap, _∙_}
-use Prim.Native.Nat.{ℕ, suc, _+_, _-_, _≤_, _<_}
-use mathlib.Core.List.{List, [], _∷_, _++_}
-use lib.ListN.{length, getD}
+use Prim.Native.Nat.{_-_}
 use Rattle.lending.specs.Utf8.{size, utf8-1, utf8-2, tail}
 use Rattle.text.proofs.Decide.{asked}
 use Rattle.lending.proofs.utf8.size_of.Statement.{statement}
 use Rattle.lending.proofs.utf8.size_of.Tie as tie
-use Rattle.lending.proofs.utf8.size_of.Reads as reads
-use Rattle.lending.proofs.utf8.size_of.Lts as lts
-use Rattle.text.proofs.scan.is_inside.Reads as is-inside-reads
-use Rattle.lending.proofs.utf8.is_two.Reads as is-two-reads
-use Rattle.lending.proofs.utf8.is_utf8_3.Reads as is-utf8-3-reads
-use Rattle.lending.proofs.utf8.is_utf8_4.Reads as is-utf8-4-reads
 
 -- src/utf8.rt:77:8
 is-inside-requires : tie.Need-is-inside-requires

@@ -1,14 +1,9 @@
 use borrow.Author.Needs.{needs}
 use native.Mathlib.Omega.{arith}
-use mathlib.Core.Path.{_≡_, refl, sym, ap, _∙_}
-use Prim.Native.Nat.{ℕ, suc, _+_, _-_, _≤_, _<_}
-use mathlib.Core.List.{List, [], _∷_, _++_}
-use lib.ListN.{length, getD}
+use Prim.Native.Nat.{_-_}
 use Rattle.list_blocks.proofs.BlockLaws.{head-here, head-none}
 use Rattle.list_blocks.proofs.block.place_of.Statement.{statement}
 use Rattle.list_blocks.proofs.block.place_of.Tie as tie
-use Rattle.list_blocks.proofs.block.place_of.Reads as reads
-use Rattle.list_blocks.proofs.block.place_of.Lts as lts
 
 mul-result : tie.Need-mul-result
 mul-result c = search needs

@@ -1,19 +1,10 @@
 use borrow.Author.Needs.{needs}
 use native.Mathlib.Omega.{arith}
-use mathlib.Core.Path.{_≡_, refl, sym, ap, _∙_}
-use Prim.Native.Nat.{ℕ, suc, _+_, _-_, _≤_, _<_}
-use mathlib.Core.List.{List, [], _∷_, _++_}
-use lib.ListN.{length, getD}
+use mathlib.Core.Path.{refl}
+use Prim.Native.Nat.{_-_}
 use Rattle.list_blocks.proofs.BlockLaws.{trim-part, rises-here, rises-next, rises-within, block-items, block-lead}
 use Rattle.list_blocks.proofs.block.put_block.Statement.{statement}
 use Rattle.list_blocks.proofs.block.put_block.Tie as tie
-use Rattle.list_blocks.proofs.block.put_block.Reads as reads
-use Rattle.list_blocks.proofs.block.put_block.Lts as lts
-use Rattle.list_blocks.proofs.block.place_of.Reads as place-of-reads
-use Rattle.list_blocks.proofs.block.put_items.Reads as put-items-reads
-use Rattle.list_blocks.proofs.item.put_lines.Reads as put-lines-reads
-use Rattle.text.proofs.trim.trim_end.Reads as trim-end-reads
-use Rattle.text.proofs.trim.trim_start.Reads as trim-start-reads
 
 mul-a : tie.Need-mul-a
 mul-a c = search needs

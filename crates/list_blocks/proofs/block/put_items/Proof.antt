@@ -1,19 +1,14 @@
 use borrow.Author.Needs.{needs}
 use native.Mathlib.Omega.{arith}
-use mathlib.Core.Path.{_≡_, refl, sym, ap, _∙_}
-use Prim.Native.Nat.{ℕ, suc, _+_, _-_, _≤_, _<_}
-use mathlib.Core.List.{List, [], _∷_, _++_}
-use lib.ListN.{length, getD}
+use mathlib.Core.Path.{_≡_, refl}
+use Prim.Native.Nat.{_+_, _-_, _≤_}
+use lib.ListN.{length}
 use Rattle.list_blocks.proofs.BlockLaws.{toWrite, items-turn, items-done, rises-here, rises-next, rises-within}
 use Rattle.list_blocks.specs.Blocks.{between, Rises}
 use Rattle.text.proofs.Writing.{Writing, start}
 use Rattle.text.specs.Cells.{cells}
 use Rattle.list_blocks.proofs.block.put_items.Statement.{statement}
 use Rattle.list_blocks.proofs.block.put_items.Tie as tie
-use Rattle.list_blocks.proofs.block.put_items.Reads as reads
-use Rattle.list_blocks.proofs.block.put_items.Lts as lts
-use Rattle.list_blocks.proofs.block.place_of.Reads as place-of-reads
-use Rattle.list_blocks.proofs.block.put_next.Reads as put-next-reads
 
 abbrev Inv-loop : tie.InvT-loop
 Inv-loop src from k last e ordered second held buf₀ nums₀ i₀ index₀ back₀ to₀ buf nums i index back to = (k ≤ i) × (length buf ≡ length buf₀) × (length nums ≡ length nums₀) × (index + k ≡ i + 1) × (back + k ≤ i + 1) × Rises (between i last from) e × Writing (cells buf₀ nums₀) to₀ (cells buf nums) to (toWrite ordered second back index i last e from (cells src from)) (toWrite ordered second held 1 k last e from (cells src from))

@@ -1,18 +1,9 @@
 use borrow.Author.Needs.{needs}
 use native.Mathlib.Omega.{arith}
-use mathlib.Core.Path.{_≡_, refl, sym, ap, _∙_}
-use Prim.Native.Nat.{ℕ, suc, _+_, _-_, _≤_, _<_}
-use mathlib.Core.List.{List, [], _∷_, _++_}
-use lib.ListN.{length, getD}
+use Prim.Native.Nat.{_-_}
 use Rattle.list_blocks.proofs.BlockLaws.{trim-part, blocked-empty, blocked-item}
 use Rattle.list_blocks.proofs.block.put_next.Statement.{statement}
 use Rattle.list_blocks.proofs.block.put_next.Tie as tie
-use Rattle.list_blocks.proofs.block.put_next.Reads as reads
-use Rattle.list_blocks.proofs.block.put_next.Lts as lts
-use Rattle.list_blocks.proofs.item.put_feeds.Reads as put-feeds-reads
-use Rattle.list_blocks.proofs.item.put_item.Reads as put-item-reads
-use Rattle.text.proofs.trim.trim_end.Reads as trim-end-reads
-use Rattle.text.proofs.trim.trim_start.Reads as trim-start-reads
 
 trim-start-requires : tie.Need-trim-start-requires
 trim-start-requires c κs = search needs

@@ -1,15 +1,8 @@
 use borrow.Author.Needs.{needs}
-use native.Mathlib.Omega.{arith}
-use mathlib.Core.Path.{_≡_, refl, sym, ap, _∙_}
-use Prim.Native.Nat.{ℕ, suc, _+_, _-_, _≤_, _<_}
-use mathlib.Core.List.{List, [], _∷_, _++_}
-use lib.ListN.{length, getD}
+use Prim.Native.Nat.{_-_}
 use Rattle.list_blocks.proofs.Markers.{width-plain, width-ordered}
 use Rattle.list_blocks.proofs.item.marker_width.Statement.{statement}
 use Rattle.list_blocks.proofs.item.marker_width.Tie as tie
-use Rattle.list_blocks.proofs.item.marker_width.Reads as reads
-use Rattle.list_blocks.proofs.item.marker_width.Lts as lts
-use Rattle.list_blocks.proofs.item.digits.Reads as digits-reads
 
 digits-requires : tie.Need-digits-requires
 digits-requires c κs = search needs

@@ -1,17 +1,8 @@
 use borrow.Author.Needs.{needs}
-use native.Mathlib.Omega.{arith}
-use mathlib.Core.Path.{_≡_, refl, sym, ap, _∙_}
-use Prim.Native.Nat.{ℕ, suc, _+_, _-_, _≤_, _<_}
-use mathlib.Core.List.{List, [], _∷_, _++_}
-use lib.ListN.{length, getD}
+use Prim.Native.Nat.{_-_}
 use Rattle.list_blocks.proofs.ItemWriting.{item-by}
 use Rattle.list_blocks.proofs.item.put_item.Statement.{statement}
 use Rattle.list_blocks.proofs.item.put_item.Tie as tie
-use Rattle.list_blocks.proofs.item.put_item.Reads as reads
-use Rattle.list_blocks.proofs.item.put_item.Lts as lts
-use Rattle.list_blocks.proofs.item.marker_width.Reads as marker-width-reads
-use Rattle.list_blocks.proofs.item.put_lines.Reads as put-lines-reads
-use Rattle.list_blocks.proofs.item.put_marker.Reads as put-marker-reads
 
 marker-width-requires : tie.Need-marker-width-requires
 marker-width-requires c κs = search needs

@@ -1,18 +1,9 @@
 use borrow.Author.Needs.{needs}
 use native.Mathlib.Omega.{arith}
-use mathlib.Core.Path.{_≡_, refl, sym, ap, _∙_}
-use Prim.Native.Nat.{ℕ, suc, _+_, _-_, _≤_, _<_}
-use mathlib.Core.List.{List, [], _∷_, _++_}
-use lib.ListN.{length, getD}
+use Prim.Native.Nat.{_-_}
 use Rattle.list_blocks.proofs.ItemWriting.{later-empty, later-line}
 use Rattle.list_blocks.proofs.item.put_later.Statement.{statement}
 use Rattle.list_blocks.proofs.item.put_later.Tie as tie
-use Rattle.list_blocks.proofs.item.put_later.Reads as reads
-use Rattle.list_blocks.proofs.item.put_later.Lts as lts
-use Rattle.list_blocks.proofs.item.put_spaces.Reads as put-spaces-reads
-use Rattle.text.proofs.trim.trim_end.Reads as trim-end-reads
-use Rattle.text.proofs.write.copy.Reads as copy-reads
-use Rattle.text.proofs.write.put_feed.Reads as put-feed-reads
 
 trim-end-requires : tie.Need-trim-end-requires
 trim-end-requires c κs = search needs

@@ -1,18 +1,13 @@
 use borrow.Author.Needs.{needs}
 use native.Mathlib.Omega.{arith}
-use mathlib.Core.Path.{_≡_, refl, sym, ap, _∙_}
-use Prim.Native.Nat.{ℕ, suc, _+_, _-_, _≤_, _<_}
-use mathlib.Core.List.{List, [], _∷_, _++_}
-use lib.ListN.{length, getD}
+use mathlib.Core.Path.{_≡_, refl}
+use Prim.Native.Nat.{_-_}
+use lib.ListN.{length}
 use Rattle.list_blocks.proofs.ItemWriting.{laterFrom, later-turn, later-done}
 use Rattle.text.proofs.Writing.{Writing, start}
 use Rattle.text.specs.Cells.{cells}
 use Rattle.list_blocks.proofs.item.put_later_lines.Statement.{statement}
 use Rattle.list_blocks.proofs.item.put_later_lines.Tie as tie
-use Rattle.list_blocks.proofs.item.put_later_lines.Reads as reads
-use Rattle.list_blocks.proofs.item.put_later_lines.Lts as lts
-use Rattle.list_blocks.proofs.item.put_later.Reads as put-later-reads
-use Rattle.text.proofs.trim.line_end.Reads as line-end-reads
 
 abbrev Inv-loop : tie.InvT-loop
 Inv-loop src from width buf₀ nums₀ end i₀ to₀ buf nums i to = (length buf ≡ length buf₀) × (length nums ≡ length nums₀) × Writing (cells buf₀ nums₀) (to₀ .0) (cells buf nums) (to .0) (laterFrom width i end (cells src from)) (laterFrom width i₀ end (cells src from))

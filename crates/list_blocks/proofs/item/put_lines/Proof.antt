@@ -1,18 +1,8 @@
 use borrow.Author.Needs.{needs}
-use native.Mathlib.Omega.{arith}
-use mathlib.Core.Path.{_≡_, refl, sym, ap, _∙_}
-use Prim.Native.Nat.{ℕ, suc, _+_, _-_, _≤_, _<_}
-use mathlib.Core.List.{List, [], _∷_, _++_}
-use lib.ListN.{length, getD}
+use Prim.Native.Nat.{_-_}
 use Rattle.list_blocks.proofs.ItemWriting.{lines-first}
 use Rattle.list_blocks.proofs.item.put_lines.Statement.{statement}
 use Rattle.list_blocks.proofs.item.put_lines.Tie as tie
-use Rattle.list_blocks.proofs.item.put_lines.Reads as reads
-use Rattle.list_blocks.proofs.item.put_lines.Lts as lts
-use Rattle.list_blocks.proofs.item.put_later_lines.Reads as put-later-lines-reads
-use Rattle.text.proofs.trim.line_end.Reads as line-end-reads
-use Rattle.text.proofs.trim.trim_end.Reads as trim-end-reads
-use Rattle.text.proofs.write.copy.Reads as copy-reads
 
 line-end-requires : tie.Need-line-end-requires
 line-end-requires c κs = search needs

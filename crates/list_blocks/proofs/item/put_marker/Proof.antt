@@ -1,18 +1,8 @@
 use borrow.Author.Needs.{needs}
-use native.Mathlib.Omega.{arith}
-use mathlib.Core.Path.{_≡_, refl, sym, ap, _∙_}
-use Prim.Native.Nat.{ℕ, suc, _+_, _-_, _≤_, _<_}
-use mathlib.Core.List.{List, [], _∷_, _++_}
-use lib.ListN.{length, getD}
+use Prim.Native.Nat.{_-_}
 use Rattle.list_blocks.proofs.Markers.{marker-plain, marker-ordered}
 use Rattle.list_blocks.proofs.item.put_marker.Statement.{statement}
 use Rattle.list_blocks.proofs.item.put_marker.Tie as tie
-use Rattle.list_blocks.proofs.item.put_marker.Reads as reads
-use Rattle.list_blocks.proofs.item.put_marker.Lts as lts
-use Rattle.list_blocks.proofs.item.marker_sign.Reads as marker-sign-reads
-use Rattle.text.proofs.write.put.Reads as put-reads
-use Rattle.text.proofs.write.put_decimal.Reads as put-decimal-reads
-use Rattle.text.proofs.write.put_sign.Reads as put-sign-reads
 
 put-decimal-requires : tie.Need-put-decimal-requires
 put-decimal-requires c κs = search needs

@@ -1,18 +1,10 @@
 use borrow.Author.Needs.{needs}
-use native.Mathlib.Omega.{arith}
-use mathlib.Core.Path.{_≡_, refl, sym, ap, _∙_}
-use Prim.Native.Nat.{ℕ, suc, _+_, _-_, _≤_, _<_}
-use mathlib.Core.List.{List, [], _∷_, _++_}
-use lib.ListN.{length, getD}
+use Prim.Native.Nat.{_-_}
 use Rattle.list_blocks.proofs.Values.{cells-bytes, begins-six, second-letter}
 use Rattle.list_blocks.specs.Tags.{tagAt}
 use Rattle.text.proofs.Decide.{asked}
 use Rattle.list_blocks.proofs.tag.opener_at.Statement.{statement}
 use Rattle.list_blocks.proofs.tag.opener_at.Tie as tie
-use Rattle.list_blocks.proofs.tag.opener_at.Reads as reads
-use Rattle.list_blocks.proofs.tag.opener_at.Lts as lts
-use Rattle.list_blocks.proofs.tag.valued_at.Reads as valued-at-reads
-use Rattle.text.proofs.scan.begins_at.Reads as begins-at-reads
 
 slice-aggregate-begins-at : tie.Need-slice-aggregate-begins-at
 slice-aggregate-begins-at c = search needs

@@ -1,16 +1,12 @@
 use borrow.Author.Needs.{needs}
 use native.Mathlib.Omega.{arith}
-use mathlib.Core.Path.{_≡_, refl, sym, ap, _∙_}
-use Prim.Native.Nat.{ℕ, suc, _+_, _-_, _≤_, _<_}
-use mathlib.Core.List.{List, [], _∷_, _++_}
-use lib.ListN.{length, getD}
+use Prim.Native.Nat.{_-_, _≤_}
+use lib.ListN.{length}
 use Rattle.list_blocks.proofs.Values.{Passes, passes-start, passes-end, passes-bracket, passes-other, passes-blank}
 use Rattle.text.proofs.Writing.{cells-le}
 use Rattle.text.specs.Cells.{cells}
 use Rattle.list_blocks.proofs.tag.skip_blank.Statement.{statement}
 use Rattle.list_blocks.proofs.tag.skip_blank.Tie as tie
-use Rattle.list_blocks.proofs.tag.skip_blank.Reads as reads
-use Rattle.list_blocks.proofs.tag.skip_blank.Lts as lts
 
 abbrev Inv-loop : tie.InvT-loop
 Inv-loop src from i r₀ r = (r ≤ length src) × Passes (cells src from) i r

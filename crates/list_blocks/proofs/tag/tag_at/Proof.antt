@@ -1,18 +1,8 @@
 use borrow.Author.Needs.{needs}
-use native.Mathlib.Omega.{arith}
-use mathlib.Core.Path.{_≡_, refl, sym, ap, _∙_}
-use Prim.Native.Nat.{ℕ, suc, _+_, _-_, _≤_, _<_}
-use mathlib.Core.List.{List, [], _∷_, _++_}
-use lib.ListN.{length, getD}
+use Prim.Native.Nat.{_-_}
 use Rattle.list_blocks.proofs.Values.{other-first, letter-is, second-star, star-alone, second-slash, slash-alone, other-second}
 use Rattle.list_blocks.proofs.tag.tag_at.Statement.{statement}
 use Rattle.list_blocks.proofs.tag.tag_at.Tie as tie
-use Rattle.list_blocks.proofs.tag.tag_at.Reads as reads
-use Rattle.list_blocks.proofs.tag.tag_at.Lts as lts
-use Rattle.list_blocks.proofs.tag.opener_at.Reads as opener-at-reads
-use Rattle.text.proofs.scan.begins_at.Reads as begins-at-reads
-use Rattle.text.proofs.scan.byte_at.Reads as byte-at-reads
-use Rattle.text.proofs.scan.small_of.Reads as small-of-reads
 
 byte-at-requires : tie.Need-byte-at-requires
 byte-at-requires c κs = search needs

@@ -1,15 +1,9 @@
 use borrow.Author.Needs.{needs}
 use native.Mathlib.Omega.{arith}
-use mathlib.Core.Path.{_≡_, refl, sym, ap, _∙_}
-use Prim.Native.Nat.{ℕ, suc, _+_, _-_, _≤_, _<_}
-use mathlib.Core.List.{List, [], _∷_, _++_}
-use lib.ListN.{length, getD}
+use Prim.Native.Nat.{_-_}
 use Rattle.list_blocks.proofs.Values.{valued-short, valued-other, valued-end, valued-longer, valued-one}
 use Rattle.list_blocks.proofs.tag.valued_at.Statement.{statement}
 use Rattle.list_blocks.proofs.tag.valued_at.Tie as tie
-use Rattle.list_blocks.proofs.tag.valued_at.Reads as reads
-use Rattle.list_blocks.proofs.tag.valued_at.Lts as lts
-use Rattle.list_blocks.proofs.tag.skip_blank.Reads as skip-blank-reads
 
 skip-blank-requires : tie.Need-skip-blank-requires
 skip-blank-requires c κs = search needs

@@ -1,18 +1,11 @@
 use borrow.Author.Needs.{needs}
 use native.Mathlib.Omega.{arith}
-use mathlib.Core.Path.{_≡_, refl, sym, ap, _∙_}
-use Prim.Native.Nat.{ℕ, suc, _+_, _-_, _≤_, _<_}
-use mathlib.Core.List.{List, [], _∷_, _++_}
-use lib.ListN.{length, getD}
+use mathlib.Core.Path.{refl}
+use Prim.Native.Nat.{_+_, _-_}
 use Rattle.list_blocks.proofs.Values.{cells-length}
 use Rattle.list_steps.proofs.Closes.{ready-framed, ready-start, kept-before, closes-done, closes-full}
 use Rattle.list_steps.proofs.close.close_list.Statement.{statement}
 use Rattle.list_steps.proofs.close.close_list.Tie as tie
-use Rattle.list_steps.proofs.close.close_list.Reads as reads
-use Rattle.list_steps.proofs.close.close_list.Lts as lts
-use Rattle.list_steps.proofs.close.put_closing.Reads as put-closing-reads
-use Rattle.list_steps.proofs.close.turns.Reads as turns-reads
-use Rattle.text.proofs.area.copy_in.Reads as copy-in-reads
 
 mul-parent : tie.Need-mul-parent
 mul-parent c = let p = c .before .before .before .before .pre in let fr = ready-framed _ _ _ _ _ _ _ _ (p .0) (p .1 .0) in let i1 = fr .inner .1 in let i2 = fr .fits .1 .1 in let i3 = fr .short .1 in omega arith

@@ -1,16 +1,12 @@
 use borrow.Author.Needs.{needs}
 use native.Mathlib.Omega.{arith}
-use mathlib.Core.Path.{_≡_, refl, sym, ap, _∙_}
-use Prim.Native.Nat.{ℕ, suc, _+_, _-_, _≤_, _<_}
-use mathlib.Core.List.{List, [], _∷_, _++_}
-use lib.ListN.{length, getD}
+use mathlib.Core.Path.{sym, _∙_}
+use Prim.Native.Nat.{_+_, _-_}
+use lib.ListN.{getD}
 use mathlib.Core.Bool.{true, false}
 use Rattle.list_steps.proofs.Closing.{feed-lead, feed-empty, feed-some}
 use Rattle.list_steps.proofs.close.feed_at.Statement.{statement}
 use Rattle.list_steps.proofs.close.feed_at.Tie as tie
-use Rattle.list_steps.proofs.close.feed_at.Reads as reads
-use Rattle.list_steps.proofs.close.feed_at.Lts as lts
-use Rattle.text.proofs.trim.is_feed.Reads as is-feed-reads
 
 mul-parent : tie.Need-mul-parent
 mul-parent c = search needs

@@ -1,16 +1,10 @@
 use borrow.Author.Needs.{needs}
-use native.Mathlib.Omega.{arith}
-use mathlib.Core.Path.{_≡_, refl, sym, ap, _∙_}
-use Prim.Native.Nat.{ℕ, suc, _+_, _-_, _≤_, _<_}
-use mathlib.Core.List.{List, [], _∷_, _++_}
-use lib.ListN.{length, getD}
+use mathlib.Core.Path.{sym}
+use Prim.Native.Nat.{_-_}
 use Rattle.list_steps.specs.Standing.{feedsBefore}
 use Rattle.text.proofs.Decide.{decide}
 use Rattle.list_steps.proofs.close.feeds_before.Statement.{statement}
 use Rattle.list_steps.proofs.close.feeds_before.Tie as tie
-use Rattle.list_steps.proofs.close.feeds_before.Reads as reads
-use Rattle.list_steps.proofs.close.feeds_before.Lts as lts
-use Rattle.list_steps.proofs.close.feed_at.Reads as feed-at-reads
 
 returns : tie.Need-returns
 unfolding feedsBefore

@@ -1,20 +1,9 @@
 use borrow.Author.Needs.{needs}
 use native.Mathlib.Omega.{arith}
-use mathlib.Core.Path.{_≡_, refl, sym, ap, _∙_}
-use Prim.Native.Nat.{ℕ, suc, _+_, _-_, _≤_, _<_}
-use mathlib.Core.List.{List, [], _∷_, _++_}
-use lib.ListN.{length, getD}
+use Prim.Native.Nat.{_-_}
 use Rattle.list_steps.proofs.Closing.{closing-by}
 use Rattle.list_steps.proofs.close.put_closing.Statement.{statement}
 use Rattle.list_steps.proofs.close.put_closing.Tie as tie
-use Rattle.list_steps.proofs.close.put_closing.Reads as reads
-use Rattle.list_steps.proofs.close.put_closing.Lts as lts
-use Rattle.list_blocks.proofs.block.put_block.Reads as put-block-reads
-use Rattle.list_steps.proofs.close.feeds_before.Reads as feeds-before-reads
-use Rattle.list_steps.proofs.close.feeds_behind.Reads as feeds-behind-reads
-use Rattle.list_steps.proofs.close.is_ordered.Reads as is-ordered-reads
-use Rattle.list_steps.proofs.close.is_second.Reads as is-second-reads
-use Rattle.list_blocks.proofs.item.put_feeds.Reads as put-feeds-reads
 
 add-kind : tie.Need-add-kind
 add-kind c = search needs

@@ -1,16 +1,9 @@
-use borrow.Author.Needs.{needs}
-use native.Mathlib.Omega.{arith}
-use mathlib.Core.Path.{_≡_, refl, sym, ap, _∙_}
-use Prim.Native.Nat.{ℕ, suc, _+_, _-_, _≤_, _<_}
-use mathlib.Core.List.{List, [], _∷_, _++_}
-use lib.ListN.{length, getD}
+use mathlib.Core.Path.{sym, ap}
+use Prim.Native.Nat.{_-_}
 use mathlib.Core.Bool.{not}
 use borrow.Author.Tests.{eq-eqb, ne-eqb}
-use Rattle.text.proofs.Decide.{decide}
 use Rattle.list_steps.proofs.close.turns.Statement.{statement}
 use Rattle.list_steps.proofs.close.turns.Tie as tie
-use Rattle.list_steps.proofs.close.turns.Reads as reads
-use Rattle.list_steps.proofs.close.turns.Lts as lts
 
 returns : tie.Need-returns
 returns c = ap not (sym (eq-eqb _ _ (c .if1 .taken)))

@@ -1,14 +1,7 @@
 use borrow.Author.Needs.{needs}
-use native.Mathlib.Omega.{arith}
-use mathlib.Core.Path.{_≡_, refl, sym, ap, _∙_}
-use Prim.Native.Nat.{ℕ, suc, _+_, _-_, _≤_, _<_}
-use mathlib.Core.List.{List, [], _∷_, _++_}
-use lib.ListN.{length, getD}
+use Prim.Native.Nat.{_-_}
 use Rattle.list_steps.proofs.depth.depth_after.Statement.{statement}
 use Rattle.list_steps.proofs.depth.depth_after.Tie as tie
-use Rattle.list_steps.proofs.depth.depth_after.Reads as reads
-use Rattle.list_steps.proofs.depth.depth_after.Lts as lts
-use Rattle.list_steps.proofs.depth.less.Reads as less-reads
 
 enum-told : tie.Need-enum-told
 enum-told c = search needs

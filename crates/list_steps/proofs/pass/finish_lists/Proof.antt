@@ -1,17 +1,14 @@
 use borrow.Author.Needs.{needs}
 use native.Mathlib.Omega.{arith}
-use mathlib.Core.Path.{_≡_, refl, sym, ap, _∙_}
-use Prim.Native.Nat.{ℕ, suc, _+_, _-_, _≤_, _<_}
-use mathlib.Core.List.{List, [], _∷_, _++_}
-use lib.ListN.{length, getD}
+use mathlib.Core.Path.{_≡_, refl}
+use Prim.Native.Nat.{_-_}
+use mathlib.Core.List.{List, []}
+use lib.ListN.{length}
 use Rattle.list_steps.proofs.Runs.{ready-next, finish-turn, finish-over, none-open, passed-done, passed-full}
 use Rattle.text.specs.Cells.{Cell}
 use Rattle.list_steps.specs.Standing.{Ready, Running}
 use Rattle.list_steps.proofs.pass.finish_lists.Statement.{statement}
 use Rattle.list_steps.proofs.pass.finish_lists.Tie as tie
-use Rattle.list_steps.proofs.pass.finish_lists.Reads as reads
-use Rattle.list_steps.proofs.pass.finish_lists.Lts as lts
-use Rattle.list_steps.proofs.close.close_list.Reads as close-list-reads
 
 abbrev Inv-loop : tie.InvT-loop
 Inv-loop base end work₀ numbers₀ out₀ origins₀ st₀ top₀ work numbers out origins st top = (length work ≡ length work₀) × (length numbers ≡ length numbers₀) × (length out ≡ length out₀) × (length origins ≡ length origins₀) × (top ≡ st .top) × Ready work numbers base end (st .at) (st .top) (st .first) (st .second) × ((x before : List Cell) → length before ≡ base → Running (length out₀) x before work₀ numbers₀ end (st₀ .at) (st₀ .top) (st₀ .first) (st₀ .second) [] → Running (length out₀) x before work numbers end (st .at) (st .top) (st .first) (st .second) [])

@@ -1,29 +1,19 @@
 use borrow.Author.Needs.{needs}
 use native.Mathlib.Omega.{arith}
 use mathlib.Core.Path.{_≡_, refl, sym, ap, _∙_}
-use Prim.Native.Nat.{ℕ, suc, _+_, _-_, _≤_, _<_}
-use mathlib.Core.List.{List, [], _∷_, _++_}
-use lib.ListN.{length, getD}
-use lib.ListN.{take, length-take}
-use lib.Seq.{length-take-le}
+use Prim.Native.Nat.{_+_, _-_, _≤_}
+use mathlib.Core.List.{List}
+use lib.ListN.{length}
+use lib.ListN.{take}
 use Rattle.list_steps.proofs.Runs.{before-length}
 use Rattle.list_steps.proofs.Runs.{running-start, running-end, running-ready, turn-size, turn-reads, turn-left, turn-goes, turn-over, passed-full}
-use Rattle.list_steps.specs.Standing.{Ready, Running}
+use Rattle.list_steps.specs.Standing.{Running}
 use Rattle.list_blocks.specs.Tags.{tokens, deeper, tooDeep}
-use Rattle.text.proofs.Writing.{cells-le}
 use Rattle.text.specs.Cells.{Cell, cells, part}
 use Rattle.list_steps.proofs.Depths.{deep-start, deep-over, deep-goes, deep-end}
 use borrow.Author.Tests.{lt-ltb, le-ltb}
 use Rattle.list_steps.proofs.pass.list_pass.Statement.{statement}
 use Rattle.list_steps.proofs.pass.list_pass.Tie as tie
-use Rattle.list_steps.proofs.pass.list_pass.Reads as reads
-use Rattle.list_steps.proofs.pass.list_pass.Lts as lts
-use Rattle.list_blocks.proofs.tag.tag_at.Reads as tag-at-reads
-use Rattle.list_steps.proofs.depth.depth_after.Reads as depth-after-reads
-use Rattle.list_steps.proofs.pass.finish_lists.Reads as finish-lists-reads
-use Rattle.list_steps.proofs.pass.rest_of.Reads as rest-of-reads
-use Rattle.list_steps.proofs.pass.stopped.Reads as stopped-reads
-use Rattle.list_steps.proofs.step.step.Reads as step-reads
 
 abbrev Inv-loop : tie.InvT-loop
 Inv-loop a e base end work₀ numbers₀ out₀ origins₀ st₀ depth₀ i₀ work numbers out origins st depth i = ((length work ≡ length work₀) × (length numbers ≡ length numbers₀) × (length out ≡ length out₀) × (length origins ≡ length origins₀)) × (a ≤ i) × (i ≤ e) × (st .at ≤ end) × (st .top + a ≤ end + i) × Running (length out₀) (part a e (cells work₀ numbers₀)) (take base (cells work₀ numbers₀)) work numbers end (st .at) (st .top) (st .first) (st .second) (tokens 0 (part i e (take base (cells work₀ numbers₀)))) × (depth ≤ 64) × (tooDeep (part a e (cells work₀ numbers₀)) ≡ deeper depth (tokens 0 (part i e (take base (cells work₀ numbers₀)))))

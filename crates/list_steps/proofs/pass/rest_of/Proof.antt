@@ -1,14 +1,7 @@
 use borrow.Author.Needs.{needs}
-use native.Mathlib.Omega.{arith}
-use mathlib.Core.Path.{_≡_, refl, sym, ap, _∙_}
-use Prim.Native.Nat.{ℕ, suc, _+_, _-_, _≤_, _<_}
-use mathlib.Core.List.{List, [], _∷_, _++_}
-use lib.ListN.{length, getD}
+use Prim.Native.Nat.{_-_}
 use Rattle.list_steps.proofs.pass.rest_of.Statement.{statement}
 use Rattle.list_steps.proofs.pass.rest_of.Tie as tie
-use Rattle.list_steps.proofs.pass.rest_of.Reads as reads
-use Rattle.list_steps.proofs.pass.rest_of.Lts as lts
-use Rattle.list_steps.proofs.pass.text_behind.Reads as text-behind-reads
 
 enum-known-tag : tie.Need-enum-known-tag
 enum-known-tag c = search needs

@@ -1,15 +1,10 @@
 use borrow.Author.Needs.{needs}
 use native.Mathlib.Omega.{arith}
-use mathlib.Core.Path.{_≡_, refl, sym, ap, _∙_}
-use Prim.Native.Nat.{ℕ, suc, _+_, _-_, _≤_, _<_}
-use mathlib.Core.List.{List, [], _∷_, _++_}
-use lib.ListN.{length, getD}
+use mathlib.Core.Path.{sym, _∙_}
+use Prim.Native.Nat.{_-_}
 use borrow.Author.Tests.{lt-ltb, le-ltb}
 use Rattle.list_steps.proofs.pass.stopped.Statement.{statement}
 use Rattle.list_steps.proofs.pass.stopped.Tie as tie
-use Rattle.list_steps.proofs.pass.stopped.Reads as reads
-use Rattle.list_steps.proofs.pass.stopped.Lts as lts
-use Rattle.list_steps.proofs.pass.too_deep.Reads as too-deep-reads
 
 sub-too-deep : tie.Need-sub-too-deep
 sub-too-deep c = search needs

@@ -1,21 +1,14 @@
 use borrow.Author.Needs.{needs}
 use native.Mathlib.Omega.{arith}
-use mathlib.Core.Path.{_≡_, refl, sym, ap, _∙_}
-use Prim.Native.Nat.{ℕ, suc, _+_, _-_, _≤_, _<_}
-use mathlib.Core.List.{List, [], _∷_, _++_}
-use lib.ListN.{length, getD}
-use mathlib.Core.Bool.{true}
+use mathlib.Core.Path.{_≡_, refl, sym, _∙_}
+use Prim.Native.Nat.{_-_, _≤_}
+use lib.ListN.{length}
 use lib.ListN.{drop}
 use Rattle.list_steps.proofs.Depths.{depth-size, depth-over, depth-goes, depth-end}
 use Rattle.list_blocks.specs.Tags.{tokens, deeper}
 use Rattle.text.specs.Cells.{cells}
 use Rattle.list_steps.proofs.pass.too_deep.Statement.{statement}
 use Rattle.list_steps.proofs.pass.too_deep.Tie as tie
-use Rattle.list_steps.proofs.pass.too_deep.Reads as reads
-use Rattle.list_steps.proofs.pass.too_deep.Lts as lts
-use Rattle.list_steps.proofs.depth.depth_after.Reads as depth-after-reads
-use Rattle.list_steps.proofs.pass.rest_of.Reads as rest-of-reads
-use Rattle.list_blocks.proofs.tag.tag_at.Reads as tag-at-reads
 
 abbrev Inv-loop : tie.InvT-loop
 Inv-loop src from «open» n depth₀ i₀ depth i = (n ≡ length src) × (i ≤ n) × (depth ≤ 64) × (deeper «open» (tokens 0 (cells src from)) ≡ deeper depth (tokens 0 (drop i (cells src from))))

@@ -1,18 +1,11 @@
 use borrow.Author.Needs.{needs}
 use native.Mathlib.Omega.{arith}
-use mathlib.Core.Path.{_≡_, refl, sym, ap, _∙_}
-use Prim.Native.Nat.{ℕ, suc, _+_, _-_, _≤_, _<_}
-use mathlib.Core.List.{List, [], _∷_, _++_}
-use lib.ListN.{length, getD}
+use Prim.Native.Nat.{_-_}
 use lib.ListN.{drop}
 use Rattle.text.specs.Cells.{cells}
 use Rattle.list_steps.proofs.Steppings.{stray-closer, counting-closer}
 use Rattle.list_steps.proofs.step.end_list.Statement.{statement}
 use Rattle.list_steps.proofs.step.end_list.Tie as tie
-use Rattle.list_steps.proofs.step.end_list.Reads as reads
-use Rattle.list_steps.proofs.step.end_list.Lts as lts
-use Rattle.list_steps.proofs.close.close_list.Reads as close-list-reads
-use Rattle.list_steps.proofs.step.keep.Reads as keep-reads
 
 keep-requires : tie.Need-keep-requires
 keep-requires c κs = search needs

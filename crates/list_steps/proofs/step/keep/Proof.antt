@@ -1,17 +1,11 @@
 use borrow.Author.Needs.{needs}
 use native.Mathlib.Omega.{arith}
-use mathlib.Core.Path.{_≡_, refl, sym, ap, _∙_}
-use Prim.Native.Nat.{ℕ, suc, _+_, _-_, _≤_, _<_}
-use mathlib.Core.List.{List, [], _∷_, _++_}
-use lib.ListN.{length, getD}
+use Prim.Native.Nat.{_-_}
 use Rattle.list_steps.proofs.Steppings.{ready-base, keeps-step}
 use Rattle.list_steps.proofs.Closes.{kept-before}
 use Rattle.text.proofs.Writing.{cells-le}
 use Rattle.list_steps.proofs.step.keep.Statement.{statement}
 use Rattle.list_steps.proofs.step.keep.Tie as tie
-use Rattle.list_steps.proofs.step.keep.Reads as reads
-use Rattle.list_steps.proofs.step.keep.Lts as lts
-use Rattle.text.proofs.area.copy_within.Reads as copy-within-reads
 
 add-t19 : tie.Need-add-t19
 add-t19 c = search needs

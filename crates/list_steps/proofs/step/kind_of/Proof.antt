@@ -1,14 +1,7 @@
-use borrow.Author.Needs.{needs}
-use native.Mathlib.Omega.{arith}
-use mathlib.Core.Path.{_≡_, refl, sym, ap, _∙_}
-use Prim.Native.Nat.{ℕ, suc, _+_, _-_, _≤_, _<_}
-use mathlib.Core.List.{List, [], _∷_, _++_}
-use lib.ListN.{length, getD}
+use Prim.Native.Nat.{_-_}
 use Rattle.list_steps.specs.Standing.{kindOf}
 use Rattle.list_steps.proofs.step.kind_of.Statement.{statement}
 use Rattle.list_steps.proofs.step.kind_of.Tie as tie
-use Rattle.list_steps.proofs.step.kind_of.Reads as reads
-use Rattle.list_steps.proofs.step.kind_of.Lts as lts
 
 returns : tie.Need-returns
 unfolding kindOf

@@ -1,18 +1,13 @@
 use borrow.Author.Needs.{needs}
 use native.Mathlib.Omega.{arith}
-use mathlib.Core.Path.{_≡_, refl, sym, ap, _∙_}
-use Prim.Native.Nat.{ℕ, suc, _+_, _-_, _≤_, _<_}
-use mathlib.Core.List.{List, [], _∷_, _++_}
-use lib.ListN.{length, getD}
-use lib.ListN.{length-set}
+use mathlib.Core.Path.{refl}
+use Prim.Native.Nat.{_+_, _-_, _<_}
+use lib.ListN.{length}
 use lib.Seq.{lt-length-set}
 use lib.ListN.{set}
 use Rattle.list_steps.proofs.Steppings.{opens-step}
 use Rattle.list_steps.proofs.step.open_list.Statement.{statement}
 use Rattle.list_steps.proofs.step.open_list.Tie as tie
-use Rattle.list_steps.proofs.step.open_list.Reads as reads
-use Rattle.list_steps.proofs.step.open_list.Lts as lts
-use Rattle.list_steps.proofs.step.kind_of.Reads as kind-of-reads
 
 kind-of-requires : tie.Need-kind-of-requires
 kind-of-requires c κs = search needs

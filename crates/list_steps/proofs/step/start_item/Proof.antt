@@ -1,17 +1,11 @@
 use borrow.Author.Needs.{needs}
 use native.Mathlib.Omega.{arith}
-use mathlib.Core.Path.{_≡_, refl, sym, ap, _∙_}
-use Prim.Native.Nat.{ℕ, suc, _+_, _-_, _≤_, _<_}
-use mathlib.Core.List.{List, [], _∷_, _++_}
-use lib.ListN.{length, getD}
+use Prim.Native.Nat.{_-_}
 use lib.ListN.{drop}
 use Rattle.text.specs.Cells.{cells}
 use Rattle.list_steps.proofs.Steppings.{stray-item, counting-item}
 use Rattle.list_steps.proofs.step.start_item.Statement.{statement}
 use Rattle.list_steps.proofs.step.start_item.Tie as tie
-use Rattle.list_steps.proofs.step.start_item.Reads as reads
-use Rattle.list_steps.proofs.step.start_item.Lts as lts
-use Rattle.list_steps.proofs.step.keep.Reads as keep-reads
 
 keep-requires : tie.Need-keep-requires
 keep-requires c κs = search needs

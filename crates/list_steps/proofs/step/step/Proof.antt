@@ -1,19 +1,10 @@
 use borrow.Author.Needs.{needs}
 use native.Mathlib.Omega.{arith}
-use mathlib.Core.Path.{_≡_, refl, sym, ap, _∙_}
-use Prim.Native.Nat.{ℕ, suc, _+_, _-_, _≤_, _<_}
-use mathlib.Core.List.{List, [], _∷_, _++_}
-use lib.ListN.{length, getD}
-use Rattle.list_steps.proofs.Steppings.{ready-first, ready-base, room-of, size-of}
-use Rattle.list_blocks.specs.declared.tag.Tag.the-variants.{Opener, Item, Closer, Plain}
+use Prim.Native.Nat.{_-_}
+use mathlib.Core.List.{[]}
+use Rattle.list_steps.proofs.Steppings.{ready-first, room-of, size-of}
 use Rattle.list_steps.proofs.step.step.Statement.{statement}
 use Rattle.list_steps.proofs.step.step.Tie as tie
-use Rattle.list_steps.proofs.step.step.Reads as reads
-use Rattle.list_steps.proofs.step.step.Lts as lts
-use Rattle.list_steps.proofs.step.end_list.Reads as end-list-reads
-use Rattle.list_steps.proofs.step.keep.Reads as keep-reads
-use Rattle.list_steps.proofs.step.open_list.Reads as open-list-reads
-use Rattle.list_steps.proofs.step.start_item.Reads as start-item-reads
 
 enum-known-tag : tie.Need-enum-known-tag
 enum-known-tag c = search needs

@@ -1,15 +1,11 @@
 use borrow.Author.Needs.{needs}
 use native.Mathlib.Omega.{arith}
-use mathlib.Core.Path.{_≡_, refl, sym, ap, _∙_}
-use Prim.Native.Nat.{ℕ, suc, _+_, _-_, _≤_, _<_}
-use mathlib.Core.List.{List, [], _∷_, _++_}
-use lib.ListN.{length, getD}
+use mathlib.Core.Path.{_≡_, refl}
+use Prim.Native.Nat.{_-_}
+use lib.ListN.{length}
 use Rattle.mark_items.proofs.Merging.{Merging, merging-start, merging-turn, merging-end}
 use Rattle.mark_items.proofs.items.merge.Statement.{statement}
 use Rattle.mark_items.proofs.items.merge.Tie as tie
-use Rattle.mark_items.proofs.items.merge.Reads as reads
-use Rattle.mark_items.proofs.items.merge.Lts as lts
-use Rattle.mark_items.proofs.items.merge_item.Reads as merge-item-reads
 
 abbrev Inv-loop : tie.InvT-loop
 Inv-loop nums₀ n k state₀ j₀ nums state j = (length nums ≡ length nums₀) × Merging nums₀ nums n k j (state .mask) (state .depth)

@@ -1,17 +1,11 @@
 use borrow.Author.Needs.{needs}
 use native.Mathlib.Omega.{arith}
-use mathlib.Core.Path.{_≡_, refl, sym, ap, _∙_}
-use Prim.Native.Nat.{ℕ, suc, _+_, _-_, _≤_, _<_}
-use mathlib.Core.List.{List, [], _∷_, _++_}
-use lib.ListN.{length, getD}
+use Prim.Native.Nat.{_+_, _-_}
 use Prim.Native.Nat.{_*_}
 use lib.ListN.{length-set}
 use Rattle.mark_items.proofs.Merging.{merged-stray, merged-out, merged-left, merged-same, merged-open, merged-fresh, merged-again}
 use Rattle.mark_items.proofs.items.merge_item.Statement.{statement}
 use Rattle.mark_items.proofs.items.merge_item.Tie as tie
-use Rattle.mark_items.proofs.items.merge_item.Reads as reads
-use Rattle.mark_items.proofs.items.merge_item.Lts as lts
-use Rattle.mark_items.proofs.items.bit_of.Reads as bit-of-reads
 
 mul-code : tie.Need-mul-code
 mul-code c = search needs

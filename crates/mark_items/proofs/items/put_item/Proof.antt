@@ -1,15 +1,11 @@
 use borrow.Author.Needs.{needs}
 use native.Mathlib.Omega.{arith}
-use mathlib.Core.Path.{_≡_, refl, sym, ap, _∙_}
-use Prim.Native.Nat.{ℕ, suc, _+_, _-_, _≤_, _<_}
-use mathlib.Core.List.{List, [], _∷_, _++_}
-use lib.ListN.{length, getD}
+use mathlib.Core.Path.{refl}
+use Prim.Native.Nat.{_+_, _-_}
 use lib.ListN.{length-set}
 use Rattle.mark_tags.specs.Flat.{withItem}
 use Rattle.mark_items.proofs.items.put_item.Statement.{statement}
 use Rattle.mark_items.proofs.items.put_item.Tie as tie
-use Rattle.mark_items.proofs.items.put_item.Reads as reads
-use Rattle.mark_items.proofs.items.put_item.Lts as lts
 
 cast-nums : tie.Need-cast-nums
 cast-nums c = search needs

@@ -1,17 +1,8 @@
 use borrow.Author.Needs.{needs}
-use native.Mathlib.Omega.{arith}
-use mathlib.Core.Path.{_≡_, refl, sym, ap, _∙_}
-use Prim.Native.Nat.{ℕ, suc, _+_, _-_, _≤_, _<_}
-use mathlib.Core.List.{List, [], _∷_, _++_}
-use lib.ListN.{length, getD}
+use Prim.Native.Nat.{_-_}
 use Rattle.mark_items.proofs.Merging.{itemed}
 use Rattle.mark_items.proofs.items.read_items.Statement.{statement}
 use Rattle.mark_items.proofs.items.read_items.Tie as tie
-use Rattle.mark_items.proofs.items.read_items.Reads as reads
-use Rattle.mark_items.proofs.items.read_items.Lts as lts
-use Rattle.mark_items.proofs.items.merge.Reads as merge-reads
-use Rattle.mark_items.proofs.items.read_tags.Reads as read-tags-reads
-use Rattle.mark_items.proofs.items.settle.Reads as settle-reads
 
 read-tags-requires : tie.Need-read-tags-requires
 read-tags-requires c κs = search needs

@@ -1,11 +1,9 @@
 use borrow.Author.Needs.{needs}
 use native.Mathlib.Omega.{arith}
 use mathlib.Core.Path.{_≡_, refl, sym, ap, _∙_}
-use Prim.Native.Nat.{ℕ, suc, _+_, _-_, _≤_, _<_}
-use mathlib.Core.List.{List, [], _∷_, _++_}
-use lib.ListN.{length, getD}
-use mathlib.Core.Option.{none}
-use lib.Seq.{take-set-le}
+use Prim.Native.Nat.{ℕ, _+_, _-_}
+use mathlib.Core.List.{List, []}
+use lib.ListN.{length}
 use lib.ListN.{length-set}
 use mathlib.Core.Path.{subst}
 use Rattle.mark_tags.specs.Flat.{Tagged}
@@ -13,20 +11,12 @@ use Rattle.mark_tags.specs.Marks.{Kind}
 use Rattle.mark_items.proofs.Tabling.{tagged-from}
 use Rattle.mark_items.proofs.TagReading.{wide-three}
 use Rattle.mark_tags.specs.Marks.{ends}
-use Rattle.mark_tags.specs.Flat.{withItem, codeOf, numberedTag, stackOf}
+use Rattle.mark_tags.specs.Flat.{codeOf, numberedTag}
 use Rattle.mark_items.proofs.TagReading.{tag-within, stack-kept, reading-step}
-use Rattle.mark_items.proofs.Tabling.{Reading, reading-start, reading-past, reading-end, item-length}
+use Rattle.mark_items.proofs.Tabling.{Reading, reading-start, reading-past, reading-end}
 use Rattle.mark_items.proofs.Scanning.{number-none}
 use Rattle.mark_items.proofs.items.read_tags.Statement.{statement}
 use Rattle.mark_items.proofs.items.read_tags.Tie as tie
-use Rattle.mark_items.proofs.items.read_tags.Reads as reads
-use Rattle.mark_items.proofs.items.read_tags.Lts as lts
-use Rattle.mark_items.proofs.items.code_of.Reads as code-of-reads
-use Rattle.mark_items.proofs.items.put_item.Reads as put-item-reads
-use Rattle.mark_items.proofs.items.stack_after.Reads as stack-after-reads
-use Rattle.mark_items.proofs.items.width_of.Reads as width-of-reads
-use Rattle.mark_tags.proofs.tags.tag_at.Reads as tag-at-reads
-use Rattle.text.proofs.scan.next_byte.Reads as next-byte-reads
 
 abbrev Inv-loop : tie.InvT-loop
 Inv-loop text nums₀ n i₀ j₀ depth₀ nums i j depth = (length nums ≡ length nums₀) × Reading text nums₀ nums i j depth

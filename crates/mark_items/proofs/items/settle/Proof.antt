@@ -1,15 +1,11 @@
 use borrow.Author.Needs.{needs}
 use native.Mathlib.Omega.{arith}
-use mathlib.Core.Path.{_≡_, refl, sym, ap, _∙_}
-use Prim.Native.Nat.{ℕ, suc, _+_, _-_, _≤_, _<_}
-use mathlib.Core.List.{List, [], _∷_, _++_}
-use lib.ListN.{length, getD}
+use mathlib.Core.Path.{_≡_, refl}
+use Prim.Native.Nat.{_-_}
+use lib.ListN.{length}
 use Rattle.mark_items.proofs.Settling.{Settling, settling-start, settling-turn, settling-end}
 use Rattle.mark_items.proofs.items.settle.Statement.{statement}
 use Rattle.mark_items.proofs.items.settle.Tie as tie
-use Rattle.mark_items.proofs.items.settle.Reads as reads
-use Rattle.mark_items.proofs.items.settle.Lts as lts
-use Rattle.mark_items.proofs.items.settle_item.Reads as settle-item-reads
 
 abbrev Inv-loop : tie.InvT-loop
 Inv-loop nums₀ n k closes₀ j₀ nums closes j = (length nums ≡ length nums₀) × Settling nums₀ nums n k j closes

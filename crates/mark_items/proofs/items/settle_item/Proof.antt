@@ -1,14 +1,9 @@
 use borrow.Author.Needs.{needs}
 use native.Mathlib.Omega.{arith}
-use mathlib.Core.Path.{_≡_, refl, sym, ap, _∙_}
-use Prim.Native.Nat.{ℕ, suc, _+_, _-_, _≤_, _<_}
-use mathlib.Core.List.{List, [], _∷_, _++_}
-use lib.ListN.{length, getD}
+use Prim.Native.Nat.{_-_}
 use Rattle.mark_items.proofs.Settling.{settled-leave, settled-kept, settled-text, settled-mark}
 use Rattle.mark_items.proofs.items.settle_item.Statement.{statement}
 use Rattle.mark_items.proofs.items.settle_item.Tie as tie
-use Rattle.mark_items.proofs.items.settle_item.Reads as reads
-use Rattle.mark_items.proofs.items.settle_item.Lts as lts
 
 mul-code : tie.Need-mul-code
 mul-code c = search needs

@@ -1,15 +1,10 @@
 use borrow.Author.Needs.{needs}
 use native.Mathlib.Omega.{arith}
-use mathlib.Core.Path.{_≡_, refl, sym, ap, _∙_}
-use Prim.Native.Nat.{ℕ, suc, _+_, _-_, _≤_, _<_}
-use mathlib.Core.List.{List, [], _∷_, _++_}
-use lib.ListN.{length, getD}
+use Prim.Native.Nat.{_-_}
 use Rattle.mark_items.proofs.Stack.{ended-deep}
 use Rattle.mark_items.proofs.Stack.{stacked-open, stacked-end, stacked-other}
 use Rattle.mark_items.proofs.items.stack_after.Statement.{statement}
 use Rattle.mark_items.proofs.items.stack_after.Tie as tie
-use Rattle.mark_items.proofs.items.stack_after.Reads as reads
-use Rattle.mark_items.proofs.items.stack_after.Lts as lts
 
 mul-nums : tie.Need-mul-nums
 mul-nums c = search needs

@@ -1,16 +1,9 @@
 use borrow.Author.Needs.{needs}
 use native.Mathlib.Omega.{arith}
-use mathlib.Core.Path.{_≡_, refl, sym, ap, _∙_}
-use Prim.Native.Nat.{ℕ, suc, _+_, _-_, _≤_, _<_}
-use mathlib.Core.List.{List, [], _∷_, _++_}
-use lib.ListN.{length, getD}
+use Prim.Native.Nat.{_-_}
 use Rattle.mark_pieces.proofs.Wrapping.{becomes-braced, becomes-bare}
 use Rattle.mark_pieces.proofs.mark.close_mark.Statement.{statement}
 use Rattle.mark_pieces.proofs.mark.close_mark.Tie as tie
-use Rattle.mark_pieces.proofs.mark.close_mark.Reads as reads
-use Rattle.mark_pieces.proofs.mark.close_mark.Lts as lts
-use Rattle.mark_pieces.proofs.piece.insert.Reads as insert-reads
-use Rattle.text.proofs.write.put_sign.Reads as put-sign-reads
 
 insert-requires : tie.Need-insert-requires
 insert-requires c κs = search needs

@@ -1,16 +1,10 @@
-use borrow.Author.Needs.{needs}
-use native.Mathlib.Omega.{arith}
-use mathlib.Core.Path.{_≡_, refl, sym, ap, _∙_}
-use Prim.Native.Nat.{ℕ, suc, _+_, _-_, _≤_, _<_}
-use mathlib.Core.List.{List, [], _∷_, _++_}
-use lib.ListN.{length, getD}
+use mathlib.Core.Path.{_≡_, sym, ap}
+use Prim.Native.Nat.{_-_}
 use Rattle.mark_tags.specs.Marks.{delimiter, bold, italic, underline, strike}
 use Rattle.mark_tags.specs.Flat.{kindNumbered}
 use Rattle.text.proofs.Decide.{decide}
 use Rattle.mark_pieces.proofs.mark.delimiter_of.Statement.{statement}
 use Rattle.mark_pieces.proofs.mark.delimiter_of.Tie as tie
-use Rattle.mark_pieces.proofs.mark.delimiter_of.Reads as reads
-use Rattle.mark_pieces.proofs.mark.delimiter_of.Lts as lts
 
 returns : tie.Need-returns
 unfolding kindNumbered

@@ -1,18 +1,11 @@
 use borrow.Author.Needs.{needs}
 use native.Mathlib.Omega.{arith}
-use mathlib.Core.Path.{_≡_, refl, sym, ap, _∙_}
-use Prim.Native.Nat.{ℕ, suc, _+_, _-_, _≤_, _<_}
-use mathlib.Core.List.{List, [], _∷_, _++_}
-use lib.ListN.{length, getD}
-use mathlib.Core.Bool.{true, false, _&&_}
+use mathlib.Core.Path.{refl, sym, _∙_}
+use Prim.Native.Nat.{_-_}
 use borrow.Author.Tests.{eq-eqb, ne-eqb}
 use Rattle.mark_pieces.proofs.Wrapping.{escape-yes, escape-no}
 use Rattle.mark_pieces.proofs.mark.escape_brace.Statement.{statement}
 use Rattle.mark_pieces.proofs.mark.escape_brace.Tie as tie
-use Rattle.mark_pieces.proofs.mark.escape_brace.Reads as reads
-use Rattle.mark_pieces.proofs.mark.escape_brace.Lts as lts
-use Rattle.mark_pieces.proofs.piece.insert.Reads as insert-reads
-use Rattle.mark_pieces.proofs.piece.is_even.Reads as is-even-reads
 
 sub-last : tie.Need-sub-last
 sub-last c = search needs

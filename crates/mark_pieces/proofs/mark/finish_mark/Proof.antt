@@ -1,21 +1,13 @@
 use borrow.Author.Needs.{needs}
 use native.Mathlib.Omega.{arith}
-use mathlib.Core.Path.{_≡_, refl, sym, ap, _∙_}
-use Prim.Native.Nat.{ℕ, suc, _+_, _-_, _≤_, _<_}
-use mathlib.Core.List.{List, [], _∷_, _++_}
-use lib.ListN.{length, getD}
+use mathlib.Core.Path.{ap, _∙_}
+use Prim.Native.Nat.{ℕ, _+_, _-_}
+use mathlib.Core.List.{_∷_, _++_}
 use lib.ListN.{take, drop}
 use Rattle.mark_pieces.proofs.Wrapping.{closes-step, closes-keeps}
 use Rattle.mark_pieces.specs.Spans.{raised}
 use Rattle.mark_pieces.proofs.mark.finish_mark.Statement.{statement}
 use Rattle.mark_pieces.proofs.mark.finish_mark.Tie as tie
-use Rattle.mark_pieces.proofs.mark.finish_mark.Reads as reads
-use Rattle.mark_pieces.proofs.mark.finish_mark.Lts as lts
-use Rattle.mark_pieces.proofs.mark.close_mark.Reads as close-mark-reads
-use Rattle.mark_pieces.proofs.mark.escape_brace.Reads as escape-brace-reads
-use Rattle.text.proofs.scan.one_if.Reads as one-if-reads
-use Rattle.mark_pieces.proofs.mark.put_span.Reads as put-span-reads
-use Rattle.mark_pieces.proofs.mark.takes_braces.Reads as takes-braces-reads
 
 add-takes-braces : tie.Need-add-takes-braces
 add-takes-braces c = search needs

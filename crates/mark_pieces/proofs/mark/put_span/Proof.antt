@@ -1,15 +1,10 @@
 use borrow.Author.Needs.{needs}
 use native.Mathlib.Omega.{arith}
-use mathlib.Core.Path.{_≡_, refl, sym, ap, _∙_}
-use Prim.Native.Nat.{ℕ, suc, _+_, _-_, _≤_, _<_}
-use mathlib.Core.List.{List, [], _∷_, _++_}
-use lib.ListN.{length, getD}
+use Prim.Native.Nat.{_-_}
+use lib.ListN.{length}
 use Rattle.mark_pieces.proofs.Listing.{listed, second-within}
 use Rattle.mark_pieces.proofs.mark.put_span.Statement.{statement}
 use Rattle.mark_pieces.proofs.mark.put_span.Tie as tie
-use Rattle.mark_pieces.proofs.mark.put_span.Reads as reads
-use Rattle.mark_pieces.proofs.mark.put_span.Lts as lts
-use Rattle.mark_pieces.proofs.mark.raise_spans.Reads as raise-spans-reads
 
 add-raise-spans : tie.Need-add-raise-spans
 add-raise-spans c = search needs

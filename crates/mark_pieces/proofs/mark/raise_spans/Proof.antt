@@ -1,16 +1,14 @@
 use borrow.Author.Needs.{needs}
 use native.Mathlib.Omega.{arith}
 use mathlib.Core.Path.{_≡_, refl, sym, ap, _∙_}
-use Prim.Native.Nat.{ℕ, suc, _+_, _-_, _≤_, _<_}
-use mathlib.Core.List.{List, [], _∷_, _++_}
-use lib.ListN.{length, getD}
+use Prim.Native.Nat.{ℕ, _+_, _-_, _≤_}
+use mathlib.Core.List.{_++_}
+use lib.ListN.{length}
 use lib.ListN.{take, drop}
 use Rattle.mark_pieces.proofs.Listing.{Mapping, mapping-start, mapping-turn}
 use Rattle.mark_pieces.specs.Spans.{raised}
 use Rattle.mark_pieces.proofs.mark.raise_spans.Statement.{statement}
 use Rattle.mark_pieces.proofs.mark.raise_spans.Tie as tie
-use Rattle.mark_pieces.proofs.mark.raise_spans.Reads as reads
-use Rattle.mark_pieces.proofs.mark.raise_spans.Lts as lts
 
 abbrev Inv-loop : tie.InvT-loop
 Inv-loop spans₀ a e by i₀ spans i = (i ≤ e) × (length spans ≡ length spans₀) × Mapping (λ x. x + by) spans₀ spans a i

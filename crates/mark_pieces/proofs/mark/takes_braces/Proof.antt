@@ -1,14 +1,8 @@
 use borrow.Author.Needs.{needs}
 use native.Mathlib.Omega.{arith}
-use mathlib.Core.Path.{_≡_, refl, sym, ap, _∙_}
-use Prim.Native.Nat.{ℕ, suc, _+_, _-_, _≤_, _<_}
-use mathlib.Core.List.{List, [], _∷_, _++_}
-use lib.ListN.{length, getD}
+use Prim.Native.Nat.{_-_}
 use Rattle.mark_pieces.proofs.mark.takes_braces.Statement.{statement}
 use Rattle.mark_pieces.proofs.mark.takes_braces.Tie as tie
-use Rattle.mark_pieces.proofs.mark.takes_braces.Reads as reads
-use Rattle.mark_pieces.proofs.mark.takes_braces.Lts as lts
-use Rattle.mark_pieces.proofs.class.is_braced.Reads as is-braced-reads
 
 shared-slice-read-is-braced : tie.Need-shared-slice-read-is-braced
 shared-slice-read-is-braced c = search needs

@@ -1,17 +1,9 @@
 use borrow.Author.Needs.{needs}
-use native.Mathlib.Omega.{arith}
-use mathlib.Core.Path.{_≡_, refl, sym, ap, _∙_}
-use Prim.Native.Nat.{ℕ, suc, _+_, _-_, _≤_, _<_}
-use mathlib.Core.List.{List, [], _∷_, _++_}
-use lib.ListN.{length, getD}
+use Prim.Native.Nat.{_-_}
 use Rattle.text.proofs.Writing.{appends-then}
 use Rattle.mark_pieces.proofs.Pieces.{unescaped}
 use Rattle.mark_pieces.proofs.piece.copy_escaped.Statement.{statement}
 use Rattle.mark_pieces.proofs.piece.copy_escaped.Tie as tie
-use Rattle.mark_pieces.proofs.piece.copy_escaped.Reads as reads
-use Rattle.mark_pieces.proofs.piece.copy_escaped.Lts as lts
-use Rattle.text.proofs.write.copy.Reads as copy-reads
-use Rattle.text.proofs.write.put_sign.Reads as put-sign-reads
 
 sub-last : tie.Need-sub-last
 sub-last c = search needs

@@ -1,18 +1,13 @@
 use borrow.Author.Needs.{needs}
-use native.Mathlib.Omega.{arith}
-use mathlib.Core.Path.{_≡_, refl, sym, ap, _∙_}
-use Prim.Native.Nat.{ℕ, suc, _+_, _-_, _≤_, _<_}
-use mathlib.Core.List.{List, [], _∷_, _++_}
+use mathlib.Core.Path.{_≡_}
+use Prim.Native.Nat.{ℕ, _-_}
+use mathlib.Core.List.{List}
 use mathlib.Core.Bool.{Bool, true, false, _&&_}
-use lib.ListN.{length, take, drop, getD}
+use lib.ListN.{take, drop, getD}
 use Rattle.mark_tags.specs.Marks.{touching}
 use Rattle.mark_tags.specs.Flat.{evenRun}
 use Rattle.mark_pieces.proofs.piece.escapes_last.Statement.{statement}
 use Rattle.mark_pieces.proofs.piece.escapes_last.Tie as tie
-use Rattle.mark_pieces.proofs.piece.escapes_last.Reads as reads
-use Rattle.mark_pieces.proofs.piece.escapes_last.Lts as lts
-use Rattle.mark_pieces.proofs.piece.is_even.Reads as is-even-reads
-use Rattle.mark_pieces.proofs.piece.is_touching.Reads as is-touching-reads
 
 module _ (src : List ℕ) (a last : ℕ) (m t : Bool) (em : m ≡ true) (et : t ≡ touching true (getD src last 0)) where
   touches : (r : Bool) → t ≡ true → r ≡ evenRun true (drop a (take last src)) → r ≡ (touching m (getD src last 0) && evenRun true (drop a (take last src)))

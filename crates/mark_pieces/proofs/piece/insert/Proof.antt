@@ -1,16 +1,12 @@
 use borrow.Author.Needs.{needs}
 use native.Mathlib.Omega.{arith}
-use mathlib.Core.Path.{_≡_, refl, sym, ap, _∙_}
-use Prim.Native.Nat.{ℕ, suc, _+_, _-_, _≤_, _<_}
-use mathlib.Core.List.{List, [], _∷_, _++_}
-use lib.ListN.{length, getD}
-use native.Mathlib.Nat.{le-antisymm}
+use mathlib.Core.Path.{_≡_, refl}
+use Prim.Native.Nat.{_-_, _≤_}
+use lib.ListN.{length}
 use Rattle.mark_pieces.proofs.Pieces.{Moved, moved-start, insert-turn, insert-done, inserts-full, cells-long}
 use Rattle.text.specs.Cells.{cells}
 use Rattle.mark_pieces.proofs.piece.insert.Statement.{statement}
 use Rattle.mark_pieces.proofs.piece.insert.Tie as tie
-use Rattle.mark_pieces.proofs.piece.insert.Reads as reads
-use Rattle.mark_pieces.proofs.piece.insert.Lts as lts
 
 abbrev Inv-loop : tie.InvT-loop
 Inv-loop buf₀ nums₀ p b end i₀ buf nums i = (p ≤ i) × (i ≤ end) × (length buf ≡ length buf₀) × (length nums ≡ length nums₀) × Moved (cells buf₀ nums₀) (cells buf nums) i end

@@ -1,17 +1,13 @@
 use borrow.Author.Needs.{needs}
 use native.Mathlib.Omega.{arith}
-use mathlib.Core.Path.{_≡_, refl, sym, ap, _∙_}
-use Prim.Native.Nat.{ℕ, suc, _+_, _-_, _≤_, _<_}
-use mathlib.Core.List.{List, [], _∷_, _++_}
-use lib.ListN.{length, getD}
+use mathlib.Core.Path.{_≡_, refl, sym, _∙_}
+use Prim.Native.Nat.{_-_, _≤_}
 use mathlib.Core.Bool.{true}
 use lib.ListN.{take, drop}
 use Rattle.mark_pieces.proofs.Pieces.{with, even-none, even-other, even-turn}
 use Rattle.mark_tags.specs.Flat.{evenRun}
 use Rattle.mark_pieces.proofs.piece.is_even.Statement.{statement}
 use Rattle.mark_pieces.proofs.piece.is_even.Tie as tie
-use Rattle.mark_pieces.proofs.piece.is_even.Reads as reads
-use Rattle.mark_pieces.proofs.piece.is_even.Lts as lts
 
 abbrev Inv-loop : tie.InvT-loop
 Inv-loop s a e even₀ i₀ even i = (a ≤ i) × (i ≤ e) × (with even (evenRun true (drop a (take i s))) ≡ evenRun true (drop a (take e s)))

@@ -1,15 +1,8 @@
 use borrow.Author.Needs.{needs}
-use native.Mathlib.Omega.{arith}
-use mathlib.Core.Path.{_≡_, refl, sym, ap, _∙_}
-use Prim.Native.Nat.{ℕ, suc, _+_, _-_, _≤_, _<_}
-use mathlib.Core.List.{List, [], _∷_, _++_}
-use lib.ListN.{length, getD}
+use Prim.Native.Nat.{_-_}
 use Rattle.text.proofs.Writing.{appends-none}
 use Rattle.mark_pieces.proofs.piece.put_backslash.Statement.{statement}
 use Rattle.mark_pieces.proofs.piece.put_backslash.Tie as tie
-use Rattle.mark_pieces.proofs.piece.put_backslash.Reads as reads
-use Rattle.mark_pieces.proofs.piece.put_backslash.Lts as lts
-use Rattle.text.proofs.write.put_sign.Reads as put-sign-reads
 
 put-sign-requires : tie.Need-put-sign-requires
 put-sign-requires c κs = search needs

@@ -1,17 +1,9 @@
 use borrow.Author.Needs.{needs}
-use native.Mathlib.Omega.{arith}
-use mathlib.Core.Path.{_≡_, refl, sym, ap, _∙_}
-use Prim.Native.Nat.{ℕ, suc, _+_, _-_, _≤_, _<_}
-use mathlib.Core.List.{List, [], _∷_, _++_}
-use lib.ListN.{length, getD}
+use mathlib.Core.Path.{refl}
+use Prim.Native.Nat.{_-_}
 use Rattle.mark_pieces.proofs.Pieces.{piece-by}
 use Rattle.mark_pieces.proofs.piece.write_piece.Statement.{statement}
 use Rattle.mark_pieces.proofs.piece.write_piece.Tie as tie
-use Rattle.mark_pieces.proofs.piece.write_piece.Reads as reads
-use Rattle.mark_pieces.proofs.piece.write_piece.Lts as lts
-use Rattle.mark_pieces.proofs.piece.copy_escaped.Reads as copy-escaped-reads
-use Rattle.mark_pieces.proofs.piece.escapes_last.Reads as escapes-last-reads
-use Rattle.mark_pieces.proofs.piece.put_backslash.Reads as put-backslash-reads
 
 sub-last : tie.Need-sub-last
 sub-last c = search needs

@@ -1,15 +1,8 @@
 use borrow.Author.Needs.{needs}
-use native.Mathlib.Omega.{arith}
-use mathlib.Core.Path.{_≡_, refl, sym, ap, _∙_}
-use Prim.Native.Nat.{ℕ, suc, _+_, _-_, _≤_, _<_}
-use mathlib.Core.List.{List, [], _∷_, _++_}
-use lib.ListN.{length, getD}
+use Prim.Native.Nat.{_-_}
 use Rattle.mark_tags.proofs.TagNumbers.{letter-sum}
 use Rattle.mark_tags.proofs.tags.kind_of.Statement.{statement}
 use Rattle.mark_tags.proofs.tags.kind_of.Tie as tie
-use Rattle.mark_tags.proofs.tags.kind_of.Reads as reads
-use Rattle.mark_tags.proofs.tags.kind_of.Lts as lts
-use Rattle.text.proofs.scan.one_if.Reads as one-if-reads
 
 one-if-requires : tie.Need-one-if-requires
 one-if-requires c κs = search needs

@@ -1,17 +1,10 @@
 use borrow.Author.Needs.{needs}
-use native.Mathlib.Omega.{arith}
-use mathlib.Core.Path.{_≡_, refl, sym, ap, _∙_}
-use Prim.Native.Nat.{ℕ, suc, _+_, _-_, _≤_, _<_}
-use mathlib.Core.List.{List, [], _∷_, _++_}
-use lib.ListN.{length, getD}
+use mathlib.Core.Path.{sym, ap}
+use Prim.Native.Nat.{_-_}
 use Rattle.mark_tags.specs.Flat.{tagNumber}
 use Rattle.mark_tags.proofs.TagNumbers.{tag-at, no-tag}
 use Rattle.mark_tags.proofs.tags.tag_at.Statement.{statement}
 use Rattle.mark_tags.proofs.tags.tag_at.Tie as tie
-use Rattle.mark_tags.proofs.tags.tag_at.Reads as reads
-use Rattle.mark_tags.proofs.tags.tag_at.Lts as lts
-use Rattle.mark_tags.proofs.tags.tag_of.Reads as tag-of-reads
-use Rattle.text.proofs.scan.byte_at.Reads as byte-at-reads
 
 shared-slice-read-a : tie.Need-shared-slice-read-a
 shared-slice-read-a c = search needs

@@ -1,9 +1,6 @@
 use borrow.Author.Needs.{needs}
-use native.Mathlib.Omega.{arith}
-use mathlib.Core.Path.{_≡_, refl, sym, ap, _∙_}
-use Prim.Native.Nat.{ℕ, suc, _+_, _-_, _≤_, _<_}
-use mathlib.Core.List.{List, [], _∷_, _++_}
-use lib.ListN.{length, getD}
+use mathlib.Core.Path.{ap, _∙_}
+use Prim.Native.Nat.{ℕ, _-_}
 use mathlib.Core.Bool.{_&&_}
 use Rattle.text.specs.Ascii.{is}
 use Rattle.mark_tags.specs.Marks.{kindOf, tagOfBytes}
@@ -11,11 +8,6 @@ use Rattle.mark_tags.specs.Flat.{letterNumber}
 use Rattle.mark_tags.proofs.TagNumbers.{letter-most, tag-number, no-tag-number}
 use Rattle.mark_tags.proofs.tags.tag_of.Statement.{statement}
 use Rattle.mark_tags.proofs.tags.tag_of.Tie as tie
-use Rattle.mark_tags.proofs.tags.tag_of.Reads as reads
-use Rattle.mark_tags.proofs.tags.tag_of.Lts as lts
-use Rattle.mark_tags.proofs.tags.either.Reads as either-reads
-use Rattle.mark_tags.proofs.tags.kind_of.Reads as kind-of-reads
-use Rattle.text.proofs.scan.one_if.Reads as one-if-reads
 
 either-requires : tie.Need-either-requires
 either-requires c κs = search needs

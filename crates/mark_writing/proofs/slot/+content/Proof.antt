@@ -1,15 +1,11 @@
 use borrow.Author.Needs.{needs}
 use native.Mathlib.Omega.{arith}
-use mathlib.Core.Path.{_≡_, refl, sym, ap, _∙_}
-use Prim.Native.Nat.{ℕ, suc, _+_, _-_, _≤_, _<_}
-use mathlib.Core.List.{List, [], _∷_, _++_}
-use lib.ListN.{length, getD}
+use Prim.Native.Nat.{ℕ, _+_, _-_, _<_}
 use Prim.Native.Nat.{ℕ, _<_}
 use borrow.Fn.Kinds.{In}
 use borrow.Fn.PlainCycle.{Measures, is, falls, and}
-use lib.ListN.{length}
 use Rattle.mark_writing.proofs.Looking.{Here, here-start, look-end, look-leave, look-text, look-gone, look-nothing, mark-deep, mark-ready, mark-some, mark-empty, answer-some, answer-empty}
-use Rattle.mark_tags.specs.Flat.{boundAt, Ready}
+use Rattle.mark_tags.specs.Flat.{boundAt}
 use Rattle.mark_writing.proofs.slot.content.Reads as content
 use Rattle.mark_writing.proofs.slot.content.Kinds as content-kinds
 use Rattle.mark_writing.proofs.slot.+content.Lts-content as content-lts

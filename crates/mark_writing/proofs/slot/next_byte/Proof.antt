@@ -1,14 +1,8 @@
-use borrow.Author.Needs.{needs}
-use native.Mathlib.Omega.{arith}
-use mathlib.Core.Path.{_≡_, refl, sym, ap, _∙_}
-use Prim.Native.Nat.{ℕ, suc, _+_, _-_, _≤_, _<_}
-use mathlib.Core.List.{List, [], _∷_, _++_}
-use lib.ListN.{length, getD}
+use mathlib.Core.Path.{sym}
+use Prim.Native.Nat.{_-_}
 use Rattle.text.proofs.Decide.{decide}
 use Rattle.mark_writing.proofs.slot.next_byte.Statement.{statement}
 use Rattle.mark_writing.proofs.slot.next_byte.Tie as tie
-use Rattle.mark_writing.proofs.slot.next_byte.Reads as reads
-use Rattle.mark_writing.proofs.slot.next_byte.Lts as lts
 
 returns : tie.Need-returns
 returns c = sym (search decide depth 12)

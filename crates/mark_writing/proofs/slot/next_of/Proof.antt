@@ -1,20 +1,14 @@
 use borrow.Author.Needs.{needs}
 use native.Mathlib.Omega.{arith}
-use mathlib.Core.Path.{_≡_, refl, sym, ap, _∙_}
-use Prim.Native.Nat.{ℕ, suc, _+_, _-_, _≤_, _<_}
-use mathlib.Core.List.{List, [], _∷_, _++_}
+use Prim.Native.Nat.{_+_, _-_}
 use lib.ListN.{length, getD}
 use lib.ListN.{length}
-use Prim.Native.Nat.{_*_}
 use Rattle.mark_writing.proofs.Looking.{next-nothing, next-mark, next-byte}
 use Rattle.mark_writing.proofs.Looking.{Here, here-start, look-end, look-leave, look-text, look-gone, look-nothing, mark-deep, mark-ready, mark-some, mark-empty}
 use Rattle.mark_writing.proofs.Slotting.{bounds}
-use Rattle.mark_tags.specs.Flat.{boundAt, Ready, nextNumber}
+use Rattle.mark_tags.specs.Flat.{boundAt}
 use Rattle.mark_writing.proofs.slot.next_of.Statement.{statement}
 use Rattle.mark_writing.proofs.slot.next_of.Tie as tie
-use Rattle.mark_writing.proofs.slot.next_of.Reads as reads
-use Rattle.mark_writing.proofs.slot.next_of.Lts as lts
-use Rattle.mark_writing.proofs.slot.content.Reads as content-reads
 
 abbrev Inv-loop : tie.InvT-loop
 Inv-loop text nums k from depth n i₀ i = Here text nums k from depth i

@@ -1,17 +1,12 @@
 use borrow.Author.Needs.{needs}
-use native.Mathlib.Omega.{arith}
 use mathlib.Core.Path.{_≡_, refl, sym, ap, _∙_}
 use mathlib.Core.Bool.{Bool, true, false}
-use Prim.Native.Nat.{ℕ, suc, _+_, _-_, _≤_, _<_}
-use lib.ListN.{length, getD}
+use Prim.Native.Nat.{ℕ, _-_}
+use lib.ListN.{getD}
 use Rattle.mark_tags.specs.Marks.{next, marked, touching}
 use Rattle.mark_tags.specs.Flat.{within, slotAt}
 use Rattle.mark_writing.proofs.slot.touches_mark.Statement.{statement}
 use Rattle.mark_writing.proofs.slot.touches_mark.Tie as tie
-use Rattle.mark_writing.proofs.slot.touches_mark.Reads as reads
-use Rattle.mark_writing.proofs.slot.touches_mark.Lts as lts
-use Rattle.mark_writing.proofs.slot.next_of.Reads as next-of-reads
-use Rattle.mark_pieces.proofs.piece.is_touching.Reads as is-touching-reads
 
 -- a byte that touches nothing, whatever is written next
 never : (b : ℕ) (m r : Bool) → r ≡ touching true b → r ≡ false → touching false b ≡ touching m b

@@ -1,15 +1,12 @@
 use borrow.Author.Needs.{needs}
 use native.Mathlib.Omega.{arith}
-use mathlib.Core.Path.{_≡_, refl, sym, ap, _∙_}
-use Prim.Native.Nat.{ℕ, suc, _+_, _-_, _≤_, _<_}
-use mathlib.Core.List.{List, [], _∷_, _++_}
-use lib.ListN.{length, getD}
+use mathlib.Core.Path.{_≡_, refl}
+use Prim.Native.Nat.{_-_, _≤_}
+use lib.ListN.{length}
 use Prim.Native.Nat.{_/_}
 use Rattle.mark_pieces.proofs.Listing.{Mapping, mapping-start, mapping-turn}
 use Rattle.marks.proofs.leave.halve.Statement.{statement}
 use Rattle.marks.proofs.leave.halve.Tie as tie
-use Rattle.marks.proofs.leave.halve.Reads as reads
-use Rattle.marks.proofs.leave.halve.Lts as lts
 
 abbrev Inv-loop : tie.InvT-loop
 Inv-loop numbers₀ n i₀ numbers i = (i ≤ n) × (length numbers ≡ length numbers₀) × Mapping (λ x. x / 2) numbers₀ numbers 0 i

@@ -1,17 +1,8 @@
 use borrow.Author.Needs.{needs}
-use native.Mathlib.Omega.{arith}
-use mathlib.Core.Path.{_≡_, refl, sym, ap, _∙_}
-use Prim.Native.Nat.{ℕ, suc, _+_, _-_, _≤_, _<_}
-use mathlib.Core.List.{List, [], _∷_, _++_}
-use lib.ListN.{length, getD}
+use Prim.Native.Nat.{_-_}
 use Rattle.marks.proofs.Conversion.{laid-there, front-left}
 use Rattle.marks.proofs.leave.leave.Statement.{statement}
 use Rattle.marks.proofs.leave.leave.Tie as tie
-use Rattle.marks.proofs.leave.leave.Reads as reads
-use Rattle.marks.proofs.leave.leave.Lts as lts
-use Rattle.marks.proofs.leave.halve.Reads as halve-reads
-use Rattle.text.proofs.zero.zero32.Reads as zero32-reads
-use Rattle.text.proofs.zero.zero8.Reads as zero8-reads
 
 halve-requires : tie.Need-halve-requires
 halve-requires c κs = search needs

@@ -1,15 +1,8 @@
 use borrow.Author.Needs.{needs}
-use native.Mathlib.Omega.{arith}
-use mathlib.Core.Path.{_≡_, refl, sym, ap, _∙_}
-use Prim.Native.Nat.{ℕ, suc, _+_, _-_, _≤_, _<_}
-use mathlib.Core.List.{List, [], _∷_, _++_}
-use lib.ListN.{length, getD}
+use Prim.Native.Nat.{_-_}
 use Rattle.marks.proofs.Passing.{pass-held}
 use Rattle.marks.proofs.pass.marks_pass.Statement.{statement}
 use Rattle.marks.proofs.pass.marks_pass.Tie as tie
-use Rattle.marks.proofs.pass.marks_pass.Reads as reads
-use Rattle.marks.proofs.pass.marks_pass.Lts as lts
-use Rattle.marks.proofs.pass.write_marks.Reads as write-marks-reads
 
 slice-aggregate-write-marks : tie.Need-slice-aggregate-write-marks
 slice-aggregate-write-marks c = search needs

@@ -1,17 +1,9 @@
 use borrow.Author.Needs.{needs}
 use native.Mathlib.Omega.{arith}
-use mathlib.Core.Path.{_≡_, refl, sym, ap, _∙_}
-use Prim.Native.Nat.{ℕ, suc, _+_, _-_, _≤_, _<_}
-use mathlib.Core.List.{List, [], _∷_, _++_}
-use lib.ListN.{length, getD}
+use Prim.Native.Nat.{_-_}
 use Rattle.marks.proofs.Passing.{pass-slot, pass-writes}
 use Rattle.marks.proofs.pass.write_marks.Statement.{statement}
 use Rattle.marks.proofs.pass.write_marks.Tie as tie
-use Rattle.marks.proofs.pass.write_marks.Reads as reads
-use Rattle.marks.proofs.pass.write_marks.Lts as lts
-use Rattle.mark_items.proofs.items.read_items.Reads as read-items-reads
-use Rattle.mark_writing.proofs.slot.write_slot.Reads as write-slot-reads
-use Rattle.text.proofs.blank.number.Reads as number-reads
 
 number-requires : tie.Need-number-requires
 number-requires c κs = search needs

@@ -1,15 +1,12 @@
 use borrow.Author.Needs.{needs}
 use native.Mathlib.Omega.{arith}
-use mathlib.Core.Path.{_≡_, refl, sym, ap, _∙_}
-use Prim.Native.Nat.{ℕ, suc, _+_, _-_, _≤_, _<_}
-use mathlib.Core.List.{List, [], _∷_, _++_}
-use lib.ListN.{length, getD}
+use mathlib.Core.Path.{_≡_, refl}
+use Prim.Native.Nat.{_-_, _≤_}
+use lib.ListN.{length}
 use lib.ListN.{take, drop, length-set}
 use Rattle.post_steps.proofs.Filling.{moved-turn, moved-rest}
 use Rattle.post_steps.proofs.front.move32.Statement.{statement}
 use Rattle.post_steps.proofs.front.move32.Tie as tie
-use Rattle.post_steps.proofs.front.move32.Reads as reads
-use Rattle.post_steps.proofs.front.move32.Lts as lts
 
 abbrev Inv-loop : tie.InvT-loop
 Inv-loop buf₀ a n i₀ buf i = (i ≤ n) × (length buf ≡ length buf₀) × (take i buf ≡ take i (drop a buf₀)) × (drop i buf ≡ drop i buf₀)

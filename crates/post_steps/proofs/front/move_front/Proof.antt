@@ -1,16 +1,8 @@
 use borrow.Author.Needs.{needs}
-use native.Mathlib.Omega.{arith}
-use mathlib.Core.Path.{_≡_, refl, sym, ap, _∙_}
-use Prim.Native.Nat.{ℕ, suc, _+_, _-_, _≤_, _<_}
-use mathlib.Core.List.{List, [], _∷_, _++_}
-use lib.ListN.{length, getD}
+use Prim.Native.Nat.{_-_}
 use Rattle.post_steps.proofs.Filling.{moved-cells}
 use Rattle.post_steps.proofs.front.move_front.Statement.{statement}
 use Rattle.post_steps.proofs.front.move_front.Tie as tie
-use Rattle.post_steps.proofs.front.move_front.Reads as reads
-use Rattle.post_steps.proofs.front.move_front.Lts as lts
-use Rattle.post_steps.proofs.front.move32.Reads as move32-reads
-use Rattle.post_steps.proofs.front.move8.Reads as move8-reads
 
 -- src/front.rt:36:5
 move8-requires : tie.Need-move8-requires

@@ -1,17 +1,11 @@
 use borrow.Author.Needs.{needs}
 use native.Mathlib.Omega.{arith}
-use mathlib.Core.Path.{_≡_, refl, sym, ap, _∙_}
-use Prim.Native.Nat.{ℕ, suc, _+_, _-_, _≤_, _<_}
-use mathlib.Core.List.{List, [], _∷_, _++_}
-use lib.ListN.{length, getD}
+use mathlib.Core.Path.{sym, _∙_}
+use Prim.Native.Nat.{ℕ, _-_, _≤_}
 use borrow.Author.Tests.{le-ltb}
 use Rattle.post_steps.proofs.Filling.{lists-up, lists-full, lists-done}
 use Rattle.post_steps.proofs.list.list_from.Statement.{statement}
 use Rattle.post_steps.proofs.list.list_from.Tie as tie
-use Rattle.post_steps.proofs.list.list_from.Reads as reads
-use Rattle.post_steps.proofs.list.list_from.Lts as lts
-use Rattle.list_steps.proofs.pass.list_pass.Reads as list-pass-reads
-use Rattle.text.proofs.write.lay_part.Reads as lay-part-reads
 
 add-end : tie.Need-add-end
 add-end c = search needs

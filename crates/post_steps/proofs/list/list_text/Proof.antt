@@ -1,16 +1,8 @@
 use borrow.Author.Needs.{needs}
-use native.Mathlib.Omega.{arith}
-use mathlib.Core.Path.{_≡_, refl, sym, ap, _∙_}
-use Prim.Native.Nat.{ℕ, suc, _+_, _-_, _≤_, _<_}
-use mathlib.Core.List.{List, [], _∷_, _++_}
-use lib.ListN.{length, getD}
+use Prim.Native.Nat.{_-_}
 use Rattle.text.specs.Cells.{part}
 use Rattle.post_steps.proofs.list.list_text.Statement.{statement}
 use Rattle.post_steps.proofs.list.list_text.Tie as tie
-use Rattle.post_steps.proofs.list.list_text.Reads as reads
-use Rattle.post_steps.proofs.list.list_text.Lts as lts
-use Rattle.post_steps.proofs.front.move_front.Reads as move-front-reads
-use Rattle.post_steps.proofs.list.list_from.Reads as list-from-reads
 
 mul-if1 : tie.Need-mul-if1
 mul-if1 c = search needs

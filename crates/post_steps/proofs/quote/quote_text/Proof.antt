@@ -1,19 +1,12 @@
 use borrow.Author.Needs.{needs}
 use native.Mathlib.Omega.{arith}
-use mathlib.Core.Path.{_≡_, refl, sym, ap, _∙_}
-use Prim.Native.Nat.{ℕ, suc, _+_, _-_, _≤_, _<_}
-use mathlib.Core.List.{List, [], _∷_, _++_}
-use lib.ListN.{length, getD}
+use Prim.Native.Nat.{_-_}
 use Rattle.text.proofs.Writing.{cells-le}
 use Rattle.attribution_parts.specs.Attribution.{caption}
 use Rattle.quote_blocks.proofs.QuotesFit.{quotes-fit}
 use Rattle.post_steps.proofs.Filling.{copied-front, quotes-up, quotes-fill}
 use Rattle.post_steps.proofs.quote.quote_text.Statement.{statement}
 use Rattle.post_steps.proofs.quote.quote_text.Tie as tie
-use Rattle.post_steps.proofs.quote.quote_text.Reads as reads
-use Rattle.post_steps.proofs.quote.quote_text.Lts as lts
-use Rattle.quote_steps.proofs.pass.quote_pass.Reads as quote-pass-reads
-use Rattle.text.proofs.write.copy.Reads as copy-reads
 
 add-end : tie.Need-add-end
 add-end c = search needs

@@ -1,16 +1,8 @@
 use borrow.Author.Needs.{needs}
-use native.Mathlib.Omega.{arith}
-use mathlib.Core.Path.{_≡_, refl, sym, ap, _∙_}
-use Prim.Native.Nat.{ℕ, suc, _+_, _-_, _≤_, _<_}
-use mathlib.Core.List.{List, [], _∷_, _++_}
-use lib.ListN.{length, getD}
+use Prim.Native.Nat.{_-_}
 use Rattle.quote_blocks.proofs.Blocks.{cells-same, is-past, not-past, caption-none, caption-some, tight-none, tight-some}
 use Rattle.quote_blocks.proofs.block.put_caption_line.Statement.{statement}
 use Rattle.quote_blocks.proofs.block.put_caption_line.Tie as tie
-use Rattle.quote_blocks.proofs.block.put_caption_line.Reads as reads
-use Rattle.quote_blocks.proofs.block.put_caption_line.Lts as lts
-use Rattle.attribution.proofs.caption.put_caption.Reads as put-caption-reads
-use Rattle.text.proofs.write.put_text.Reads as put-text-reads
 
 slice-aggregate-put-text : tie.Need-slice-aggregate-put-text
 slice-aggregate-put-text c = search needs

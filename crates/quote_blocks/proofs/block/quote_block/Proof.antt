@@ -1,17 +1,8 @@
 use borrow.Author.Needs.{needs}
-use native.Mathlib.Omega.{arith}
-use mathlib.Core.Path.{_≡_, refl, sym, ap, _∙_}
-use Prim.Native.Nat.{ℕ, suc, _+_, _-_, _≤_, _<_}
-use mathlib.Core.List.{List, [], _∷_, _++_}
-use lib.ListN.{length, getD}
+use Prim.Native.Nat.{_-_}
 use Rattle.quote_blocks.proofs.Blocks.{block-by}
 use Rattle.quote_blocks.proofs.block.quote_block.Statement.{statement}
 use Rattle.quote_blocks.proofs.block.quote_block.Tie as tie
-use Rattle.quote_blocks.proofs.block.quote_block.Reads as reads
-use Rattle.quote_blocks.proofs.block.quote_block.Lts as lts
-use Rattle.quote_blocks.proofs.block.put_caption_line.Reads as put-caption-line-reads
-use Rattle.quote_blocks.proofs.content.put_quoted.Reads as put-quoted-reads
-use Rattle.text.proofs.write.put_feed.Reads as put-feed-reads
 
 put-quoted-requires : tie.Need-put-quoted-requires
 put-quoted-requires c κs = search needs

@@ -1,18 +1,8 @@
 use borrow.Author.Needs.{needs}
-use native.Mathlib.Omega.{arith}
-use mathlib.Core.Path.{_≡_, refl, sym, ap, _∙_}
-use Prim.Native.Nat.{ℕ, suc, _+_, _-_, _≤_, _<_}
-use mathlib.Core.List.{List, [], _∷_, _++_}
-use lib.ListN.{length, getD}
+use Prim.Native.Nat.{_-_}
 use Rattle.quote_blocks.proofs.Blocks.{line-blank, line-other}
 use Rattle.quote_blocks.proofs.content.put_line.Statement.{statement}
 use Rattle.quote_blocks.proofs.content.put_line.Tie as tie
-use Rattle.quote_blocks.proofs.content.put_line.Reads as reads
-use Rattle.quote_blocks.proofs.content.put_line.Lts as lts
-use Rattle.text.proofs.trim.all_blank.Reads as all-blank-reads
-use Rattle.text.proofs.write.copy.Reads as copy-reads
-use Rattle.text.proofs.write.put.Reads as put-reads
-use Rattle.text.proofs.write.put_sign.Reads as put-sign-reads
 
 put-sign-requires : tie.Need-put-sign-requires
 put-sign-requires c κs = search needs

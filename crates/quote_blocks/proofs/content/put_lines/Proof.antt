@@ -1,18 +1,9 @@
 use borrow.Author.Needs.{needs}
 use native.Mathlib.Omega.{arith}
-use mathlib.Core.Path.{_≡_, refl, sym, ap, _∙_}
-use Prim.Native.Nat.{ℕ, suc, _+_, _-_, _≤_, _<_}
-use mathlib.Core.List.{List, [], _∷_, _++_}
-use lib.ListN.{length, getD}
+use Prim.Native.Nat.{_-_}
 use Rattle.quote_blocks.proofs.Blocks.{lines-first, lines-none}
 use Rattle.quote_blocks.proofs.content.put_lines.Statement.{statement}
 use Rattle.quote_blocks.proofs.content.put_lines.Tie as tie
-use Rattle.quote_blocks.proofs.content.put_lines.Reads as reads
-use Rattle.quote_blocks.proofs.content.put_lines.Lts as lts
-use Rattle.quote_blocks.proofs.content.put_line.Reads as put-line-reads
-use Rattle.quote_blocks.proofs.content.put_more_lines.Reads as put-more-lines-reads
-use Rattle.text.proofs.trim.line_end.Reads as line-end-reads
-use Rattle.text.proofs.write.put_sign.Reads as put-sign-reads
 
 line-end-requires : tie.Need-line-end-requires
 line-end-requires c κs = search needs

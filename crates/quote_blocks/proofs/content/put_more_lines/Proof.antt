@@ -1,19 +1,13 @@
 use borrow.Author.Needs.{needs}
 use native.Mathlib.Omega.{arith}
-use mathlib.Core.Path.{_≡_, refl, sym, ap, _∙_}
-use Prim.Native.Nat.{ℕ, suc, _+_, _-_, _≤_, _<_}
-use mathlib.Core.List.{List, [], _∷_, _++_}
-use lib.ListN.{length, getD}
+use mathlib.Core.Path.{_≡_, refl}
+use Prim.Native.Nat.{_-_}
+use lib.ListN.{length}
 use Rattle.quote_blocks.proofs.Blocks.{moreLines, more-turn, more-end}
 use Rattle.text.proofs.Writing.{Writing, start, more, done, appends-then}
 use Rattle.text.specs.Cells.{cells, part}
 use Rattle.quote_blocks.proofs.content.put_more_lines.Statement.{statement}
 use Rattle.quote_blocks.proofs.content.put_more_lines.Tie as tie
-use Rattle.quote_blocks.proofs.content.put_more_lines.Reads as reads
-use Rattle.quote_blocks.proofs.content.put_more_lines.Lts as lts
-use Rattle.quote_blocks.proofs.content.put_line.Reads as put-line-reads
-use Rattle.text.proofs.trim.line_end.Reads as line-end-reads
-use Rattle.text.proofs.write.put_feed.Reads as put-feed-reads
 
 abbrev Inv-loop : tie.InvT-loop
 Inv-loop src from e buf₀ nums₀ end i₀ to₀ buf nums i to = (length buf ≡ length buf₀) × (length nums ≡ length nums₀) × Writing (cells buf₀ nums₀) (to₀ .0) (cells buf nums) (to .0) (moreLines (part i (e .0) (cells src from))) (moreLines (part i₀ (e .0) (cells src from)))

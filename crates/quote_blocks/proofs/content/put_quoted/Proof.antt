@@ -1,18 +1,9 @@
 use borrow.Author.Needs.{needs}
 use native.Mathlib.Omega.{arith}
-use mathlib.Core.Path.{_≡_, refl, sym, ap, _∙_}
-use Prim.Native.Nat.{ℕ, suc, _+_, _-_, _≤_, _<_}
-use mathlib.Core.List.{List, [], _∷_, _++_}
-use lib.ListN.{length, getD}
+use Prim.Native.Nat.{_-_}
 use Rattle.quote_blocks.proofs.Blocks.{quoted-by}
 use Rattle.quote_blocks.proofs.content.put_quoted.Statement.{statement}
 use Rattle.quote_blocks.proofs.content.put_quoted.Tie as tie
-use Rattle.quote_blocks.proofs.content.put_quoted.Reads as reads
-use Rattle.quote_blocks.proofs.content.put_quoted.Lts as lts
-use Rattle.quote_blocks.proofs.content.put_lines.Reads as put-lines-reads
-use Rattle.text.proofs.trim.trim_end.Reads as trim-end-reads
-use Rattle.text.proofs.trim.trim_start.Reads as trim-start-reads
-use Rattle.text.proofs.write.put_feed.Reads as put-feed-reads
 
 put-feed-requires : tie.Need-put-feed-requires
 put-feed-requires c κs = search needs

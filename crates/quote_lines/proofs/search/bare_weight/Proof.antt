@@ -1,15 +1,11 @@
 use borrow.Author.Needs.{needs}
 use native.Mathlib.Omega.{arith}
-use mathlib.Core.Path.{_≡_, refl, sym, ap, _∙_}
-use Prim.Native.Nat.{ℕ, suc, _+_, _-_, _≤_, _<_}
-use mathlib.Core.List.{List, [], _∷_, _++_}
-use lib.ListN.{length, getD}
+use Prim.Native.Nat.{_-_}
+use lib.ListN.{length}
 use mathlib.Core.Logic.{⊎-elim}
 use Rattle.quote_lines.proofs.Bared.{Weighing, weighing, weighing-on, weighing-over, weighing-end}
 use Rattle.quote_lines.proofs.search.bare_weight.Statement.{statement}
 use Rattle.quote_lines.proofs.search.bare_weight.Tie as tie
-use Rattle.quote_lines.proofs.search.bare_weight.Reads as reads
-use Rattle.quote_lines.proofs.search.bare_weight.Lts as lts
 
 abbrev Inv-loop : tie.InvT-loop
 Inv-loop s n₀ i₀ n i = Weighing s n i

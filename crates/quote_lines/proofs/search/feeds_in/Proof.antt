@@ -1,15 +1,9 @@
 use borrow.Author.Needs.{needs}
 use native.Mathlib.Omega.{arith}
-use mathlib.Core.Path.{_≡_, refl, sym, ap, _∙_}
-use Prim.Native.Nat.{ℕ, suc, _+_, _-_, _≤_, _<_}
-use mathlib.Core.List.{List, [], _∷_, _++_}
-use lib.ListN.{length, getD}
+use Prim.Native.Nat.{ℕ, _-_}
 use Rattle.quote_lines.proofs.Tabling.{Behind, behind, behind-byte, behind-end}
 use Rattle.quote_lines.proofs.search.feeds_in.Statement.{statement}
 use Rattle.quote_lines.proofs.search.feeds_in.Tie as tie
-use Rattle.quote_lines.proofs.search.feeds_in.Reads as reads
-use Rattle.quote_lines.proofs.search.feeds_in.Lts as lts
-use Rattle.quote_lines.proofs.search.byte_if.Reads as byte-if-reads
 
 abbrev Inv-loop : tie.InvT-loop
 Inv-loop s a e i₀ feeds₀ i feeds = (line : ℕ) → Behind s a e line i feeds

@@ -1,17 +1,13 @@
 use borrow.Author.Needs.{needs}
 use native.Mathlib.Omega.{arith}
-use mathlib.Core.Path.{_≡_, refl, sym, ap, _∙_}
-use Prim.Native.Nat.{ℕ, suc, _+_, _-_, _≤_, _<_}
-use mathlib.Core.List.{List, [], _∷_, _++_}
-use lib.ListN.{length, getD}
+use mathlib.Core.Path.{sym, ap, _∙_}
+use Prim.Native.Nat.{ℕ, _+_, _-_}
+use mathlib.Core.List.{List}
 use Rattle.quote_lines.proofs.Bared.{other-weight}
 use Rattle.quote_lines.proofs.Tabling.{words-cut}
 use Rattle.quote_lines.specs.Lines.{bare, same}
 use Rattle.quote_lines.proofs.search.has_attribution.Statement.{statement}
 use Rattle.quote_lines.proofs.search.has_attribution.Tie as tie
-use Rattle.quote_lines.proofs.search.has_attribution.Reads as reads
-use Rattle.quote_lines.proofs.search.has_attribution.Lts as lts
-use Rattle.quote_lines.proofs.search.same_bare.Reads as same-bare-reads
 
 add-there : tie.Need-add-there
 add-there c = search needs

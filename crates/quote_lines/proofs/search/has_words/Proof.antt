@@ -1,15 +1,9 @@
 use borrow.Author.Needs.{needs}
-use native.Mathlib.Omega.{arith}
-use mathlib.Core.Path.{_≡_, refl, sym, ap, _∙_}
-use Prim.Native.Nat.{ℕ, suc, _+_, _-_, _≤_, _<_}
-use mathlib.Core.List.{List, [], _∷_, _++_}
-use lib.ListN.{length, getD}
+use mathlib.Core.Path.{sym, _∙_}
+use Prim.Native.Nat.{_-_}
 use Rattle.quote_lines.proofs.Tabling.{words-cut}
 use Rattle.quote_lines.proofs.search.has_words.Statement.{statement}
 use Rattle.quote_lines.proofs.search.has_words.Tie as tie
-use Rattle.quote_lines.proofs.search.has_words.Reads as reads
-use Rattle.quote_lines.proofs.search.has_words.Lts as lts
-use Rattle.quote_lines.proofs.search.same_text.Reads as same-text-reads
 
 add-a : tie.Need-add-a
 add-a c = search needs

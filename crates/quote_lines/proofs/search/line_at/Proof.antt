@@ -1,14 +1,9 @@
 use borrow.Author.Needs.{needs}
 use native.Mathlib.Omega.{arith}
-use mathlib.Core.Path.{_≡_, refl, sym, ap, _∙_}
-use Prim.Native.Nat.{ℕ, suc, _+_, _-_, _≤_, _<_}
-use mathlib.Core.List.{List, [], _∷_, _++_}
-use lib.ListN.{length, getD}
+use Prim.Native.Nat.{_-_}
 use Rattle.quote_lines.proofs.Finding.{line-none, line-next, line-last}
 use Rattle.quote_lines.proofs.search.line_at.Statement.{statement}
 use Rattle.quote_lines.proofs.search.line_at.Tie as tie
-use Rattle.quote_lines.proofs.search.line_at.Reads as reads
-use Rattle.quote_lines.proofs.search.line_at.Lts as lts
 
 returns : tie.Need-returns
 returns c = line-none _ _ _ _ (c .if1 .taken)

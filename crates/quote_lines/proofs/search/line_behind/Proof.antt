@@ -1,16 +1,9 @@
 use borrow.Author.Needs.{needs}
 use native.Mathlib.Omega.{arith}
-use mathlib.Core.Path.{_≡_, refl, sym, ap, _∙_}
-use Prim.Native.Nat.{ℕ, suc, _+_, _-_, _≤_, _<_}
-use mathlib.Core.List.{List, [], _∷_, _++_}
-use lib.ListN.{length, getD}
+use Prim.Native.Nat.{_-_}
 use Rattle.quote_lines.proofs.Tabling.{Behind, behind, behind-run, behind-end}
 use Rattle.quote_lines.proofs.search.line_behind.Statement.{statement}
 use Rattle.quote_lines.proofs.search.line_behind.Tie as tie
-use Rattle.quote_lines.proofs.search.line_behind.Reads as reads
-use Rattle.quote_lines.proofs.search.line_behind.Lts as lts
-use Rattle.quote_lines.proofs.search.feeds_in.Reads as feeds-in-reads
-use Rattle.text.proofs.shorter.Reads as shorter-reads
 
 abbrev Inv-loop : tie.InvT-loop
 Inv-loop s a e line i₀ feeds₀ i feeds = Behind s a e line i feeds

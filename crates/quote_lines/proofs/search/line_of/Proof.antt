@@ -1,20 +1,12 @@
 use borrow.Author.Needs.{needs}
 use native.Mathlib.Omega.{arith}
-use mathlib.Core.Path.{_≡_, refl, sym, ap, _∙_}
-use Prim.Native.Nat.{ℕ, suc, _+_, _-_, _≤_, _<_}
-use mathlib.Core.List.{List, [], _∷_, _++_}
-use lib.ListN.{length, getD}
+use mathlib.Core.Path.{refl, sym, _∙_}
+use Prim.Native.Nat.{_-_}
 use Rattle.quote_lines.proofs.Bared.{same-self}
 use Rattle.quote_lines.proofs.Finding.{Finding, finding, finding-on, found, failed, line-there}
 use Rattle.quote_lines.specs.Lines.{tags}
 use Rattle.quote_lines.proofs.search.line_of.Statement.{statement}
 use Rattle.quote_lines.proofs.search.line_of.Tie as tie
-use Rattle.quote_lines.proofs.search.line_of.Reads as reads
-use Rattle.quote_lines.proofs.search.line_of.Lts as lts
-use Rattle.quote_lines.proofs.search.bare_weight.Reads as bare-weight-reads
-use Rattle.quote_lines.proofs.search.has_attribution.Reads as has-attribution-reads
-use Rattle.quote_lines.proofs.search.has_words.Reads as has-words-reads
-use Rattle.quote_lines.proofs.search.line_at.Reads as line-at-reads
 
 abbrev Inv-loop : tie.InvT-loop
 Inv-loop s numbers t count next attribution size i₀ i = Finding (tags 1 0 s) next attribution i

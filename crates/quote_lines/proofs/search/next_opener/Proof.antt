@@ -1,19 +1,14 @@
 use borrow.Author.Needs.{needs}
 use native.Mathlib.Omega.{arith}
-use mathlib.Core.Path.{_≡_, refl, sym, ap, _∙_}
-use Prim.Native.Nat.{ℕ, suc, _+_, _-_, _≤_, _<_}
-use mathlib.Core.List.{List, [], _∷_, _++_}
-use lib.ListN.{length, getD}
+use mathlib.Core.Path.{sym, _∙_}
+use Prim.Native.Nat.{_-_}
+use lib.ListN.{length}
 use Rattle.quote_tags.proofs.Plain.{bracket-past}
 use Rattle.quote_lines.proofs.Tabling.{untagged, untagged-past, untagged-byte, opener-found, opener-missing}
 use Rattle.quote_tags.specs.Tags.{NextBracket}
 use Rattle.quote_lines.specs.Tables.{Untagged}
 use Rattle.quote_lines.proofs.search.next_opener.Statement.{statement}
 use Rattle.quote_lines.proofs.search.next_opener.Tie as tie
-use Rattle.quote_lines.proofs.search.next_opener.Reads as reads
-use Rattle.quote_lines.proofs.search.next_opener.Lts as lts
-use Rattle.quote_lines.proofs.search.opener_at.Reads as opener-at-reads
-use Rattle.quote_tags.proofs.tag.next_tag.Reads as next-tag-reads
 
 abbrev Inv-loop : tie.InvT-loop
 Inv-loop s i₀ bracket₀ i bracket = Untagged s i₀ i × NextBracket s i (bracket .0)

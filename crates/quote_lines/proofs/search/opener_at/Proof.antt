@@ -1,18 +1,10 @@
 use borrow.Author.Needs.{needs}
-use native.Mathlib.Omega.{arith}
-use mathlib.Core.Path.{_≡_, refl, sym, ap, _∙_}
-use Prim.Native.Nat.{ℕ, suc, _+_, _-_, _≤_, _<_}
-use mathlib.Core.List.{List, [], _∷_, _++_}
-use lib.ListN.{length, getD}
+use mathlib.Core.Path.{refl, sym, _∙_}
+use Prim.Native.Nat.{_-_}
 use Rattle.quote_tags.proofs.Tagging.{tag-is, tag-not}
 use Rattle.quote_tags.specs.Tags.{openerSize}
 use Rattle.quote_lines.proofs.search.opener_at.Statement.{statement}
 use Rattle.quote_lines.proofs.search.opener_at.Tie as tie
-use Rattle.quote_lines.proofs.search.opener_at.Reads as reads
-use Rattle.quote_lines.proofs.search.opener_at.Lts as lts
-use Rattle.quote_tags.proofs.tag.bracket_from.Reads as bracket-from-reads
-use Rattle.quote_tags.proofs.tag.opens_quote.Reads as opens-quote-reads
-use Rattle.quote_tags.proofs.tag.up_to_bracket.Reads as up-to-bracket-reads
 
 opens-quote-requires : tie.Need-opens-quote-requires
 opens-quote-requires c κs = search needs

@@ -1,14 +1,10 @@
 use borrow.Author.Needs.{needs}
 use native.Mathlib.Omega.{arith}
-use mathlib.Core.Path.{_≡_, refl, sym, ap, _∙_}
-use Prim.Native.Nat.{ℕ, suc, _+_, _-_, _≤_, _<_}
-use mathlib.Core.List.{List, [], _∷_, _++_}
-use lib.ListN.{length, getD}
+use Prim.Native.Nat.{_-_}
+use lib.ListN.{length}
 use Rattle.quote_lines.proofs.Bared.{Past, past, past-here, past-on, past-end}
 use Rattle.quote_lines.proofs.search.past_backslashes.Statement.{statement}
 use Rattle.quote_lines.proofs.search.past_backslashes.Tie as tie
-use Rattle.quote_lines.proofs.search.past_backslashes.Reads as reads
-use Rattle.quote_lines.proofs.search.past_backslashes.Lts as lts
 
 abbrev Inv-loop : tie.InvT-loop
 Inv-loop s at i₀ i = Past s i₀ i

@@ -1,18 +1,13 @@
 use borrow.Author.Needs.{needs}
 use native.Mathlib.Omega.{arith}
-use mathlib.Core.Path.{_≡_, refl, sym, ap, _∙_}
-use Prim.Native.Nat.{ℕ, suc, _+_, _-_, _≤_, _<_}
-use mathlib.Core.List.{List, [], _∷_, _++_}
-use lib.ListN.{length, getD}
+use mathlib.Core.Path.{_≡_, ap, _∙_}
+use Prim.Native.Nat.{ℕ, _+_, _-_}
 use lib.ListN.{take, drop, length-set}
 use Rattle.quote_lines.proofs.Tabling.{tag-put}
 use Rattle.quote_lines.specs.Lines.{bare}
 use Rattle.quote_lines.specs.Tables.{weight}
 use Rattle.quote_lines.proofs.search.put_tag.Statement.{statement}
 use Rattle.quote_lines.proofs.search.put_tag.Tie as tie
-use Rattle.quote_lines.proofs.search.put_tag.Reads as reads
-use Rattle.quote_lines.proofs.search.put_tag.Lts as lts
-use Rattle.quote_lines.proofs.search.bare_weight.Reads as bare-weight-reads
 
 add-e : tie.Need-add-e
 add-e c = search needs

@@ -1,18 +1,11 @@
 use borrow.Author.Needs.{needs}
 use native.Mathlib.Omega.{arith}
-use mathlib.Core.Path.{_≡_, refl, sym, ap, _∙_}
-use Prim.Native.Nat.{ℕ, suc, _+_, _-_, _≤_, _<_}
-use mathlib.Core.List.{List, [], _∷_, _++_}
-use lib.ListN.{length, getD}
+use mathlib.Core.Path.{sym, ap, _∙_}
+use Prim.Native.Nat.{_-_}
 use lib.Seq.{length-take-le}
 use Rattle.quote_tags.specs.Masks.{visible}
 use Rattle.quote_lines.proofs.search.read_lines.Statement.{statement}
 use Rattle.quote_lines.proofs.search.read_lines.Tie as tie
-use Rattle.quote_lines.proofs.search.read_lines.Reads as reads
-use Rattle.quote_lines.proofs.search.read_lines.Lts as lts
-use Rattle.quote_tags.proofs.mask.mask_all.Reads as mask-all-reads
-use Rattle.quote_lines.proofs.search.read_tags.Reads as read-tags-reads
-use Rattle.text.proofs.source.set_source.Reads as set-source-reads
 
 set-source-requires : tie.Need-set-source-requires
 set-source-requires c κs = search needs

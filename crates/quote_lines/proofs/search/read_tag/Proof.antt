@@ -1,9 +1,7 @@
 use borrow.Author.Needs.{needs}
 use native.Mathlib.Omega.{arith}
-use mathlib.Core.Path.{_≡_, refl, sym, ap, _∙_}
-use Prim.Native.Nat.{ℕ, suc, _+_, _-_, _≤_, _<_}
-use mathlib.Core.List.{List, [], _∷_, _++_}
-use lib.ListN.{length, getD}
+use mathlib.Core.Path.{refl}
+use Prim.Native.Nat.{_+_, _-_}
 use Prim.Native.Nat.{_*_}
 use lib.ListN.{drop}
 use Rattle.quote_lines.proofs.Tabling.{opener-long, take-less, tabled-on, tabled-last, tabled-opener}
@@ -11,12 +9,6 @@ use Rattle.quote_tags.proofs.Tagging.{behind-within, behind-bracket}
 use Rattle.quote_tags.specs.Tags.{openers, openerSize}
 use Rattle.quote_lines.proofs.search.read_tag.Statement.{statement}
 use Rattle.quote_lines.proofs.search.read_tag.Tie as tie
-use Rattle.quote_lines.proofs.search.read_tag.Reads as reads
-use Rattle.quote_lines.proofs.search.read_tag.Lts as lts
-use Rattle.quote_lines.proofs.search.attribution_size.Reads as attribution-size-reads
-use Rattle.quote_lines.proofs.search.line_behind.Reads as line-behind-reads
-use Rattle.quote_lines.proofs.search.next_opener.Reads as next-opener-reads
-use Rattle.quote_lines.proofs.search.put_tag.Reads as put-tag-reads
 
 next-opener-requires : tie.Need-next-opener-requires
 next-opener-requires c κs = search needs

@@ -1,19 +1,14 @@
 use borrow.Author.Needs.{needs}
 use native.Mathlib.Omega.{arith}
-use mathlib.Core.Path.{_≡_, refl, sym, ap, _∙_}
-use Prim.Native.Nat.{ℕ, suc, _+_, _-_, _≤_, _<_}
-use mathlib.Core.List.{List, [], _∷_, _++_}
-use lib.ListN.{length, getD}
+use mathlib.Core.Path.{_≡_, refl, _∙_}
+use Prim.Native.Nat.{_-_, _≤_}
+use lib.ListN.{length}
 use lib.ListN.{take}
 use Rattle.quote_lines.proofs.Tabling.{tabled, tabled-end}
 use Rattle.quote_lines.specs.Tables.{Tabled}
 use Rattle.quote_tags.specs.Tags.{NextBracket}
 use Rattle.quote_lines.proofs.search.read_tags.Statement.{statement}
 use Rattle.quote_lines.proofs.search.read_tags.Tie as tie
-use Rattle.quote_lines.proofs.search.read_tags.Reads as reads
-use Rattle.quote_lines.proofs.search.read_tags.Lts as lts
-use Rattle.quote_lines.proofs.search.read_tag.Reads as read-tag-reads
-use Rattle.text.proofs.scan.next_bracket.Reads as next-bracket-reads
 
 abbrev Inv-loop : tie.InvT-loop
 Inv-loop s numbers₀ t st₀ i₀ numbers st i = (i ≡ st .at .0) × (i ≤ length s) × NextBracket s (st .at .0) (st .bracket .0) × (length numbers ≡ length numbers₀) × (take t numbers ≡ take t numbers₀) × Tabled s numbers t (st .at .0) (st .line) (st .count)

@@ -1,15 +1,10 @@
 use borrow.Author.Needs.{needs}
 use native.Mathlib.Omega.{arith}
-use mathlib.Core.Path.{_≡_, refl, sym, ap, _∙_}
-use Prim.Native.Nat.{ℕ, suc, _+_, _-_, _≤_, _<_}
-use mathlib.Core.List.{List, [], _∷_, _++_}
-use lib.ListN.{length, getD}
+use Prim.Native.Nat.{_-_}
+use lib.ListN.{length}
 use Rattle.quote_lines.proofs.Bared.{Comparing, comparing, comparing-short, comparing-long, comparing-end, comparing-other, comparing-on}
 use Rattle.quote_lines.proofs.search.same_bare.Statement.{statement}
 use Rattle.quote_lines.proofs.search.same_bare.Tie as tie
-use Rattle.quote_lines.proofs.search.same_bare.Reads as reads
-use Rattle.quote_lines.proofs.search.same_bare.Lts as lts
-use Rattle.quote_lines.proofs.search.past_backslashes.Reads as past-backslashes-reads
 
 abbrev Inv-loop : tie.InvT-loop
 Inv-loop s a i₀ j₀ i j = Comparing s a i j

@@ -1,15 +1,12 @@
 use borrow.Author.Needs.{needs}
 use native.Mathlib.Omega.{arith}
-use mathlib.Core.Path.{_≡_, refl, sym, ap, _∙_}
-use Prim.Native.Nat.{ℕ, suc, _+_, _-_, _≤_, _<_}
-use mathlib.Core.List.{List, [], _∷_, _++_}
-use lib.ListN.{length, getD}
+use mathlib.Core.Path.{sym}
+use Prim.Native.Nat.{_-_}
+use lib.ListN.{length}
 use mathlib.Core.Bool.{true≢false}
 use Rattle.quote_lines.proofs.Bared.{Equating, equating, equating-on, equating-end}
 use Rattle.quote_lines.proofs.search.same_text.Statement.{statement}
 use Rattle.quote_lines.proofs.search.same_text.Tie as tie
-use Rattle.quote_lines.proofs.search.same_text.Reads as reads
-use Rattle.quote_lines.proofs.search.same_text.Lts as lts
 
 abbrev Inv-loop : tie.InvT-loop
 Inv-loop s a i₀ i = Equating s a i

@@ -1,8 +1,7 @@
 use borrow.Author.Needs.{needs}
 use native.Mathlib.Omega.{arith}
-use mathlib.Core.Path.{_≡_, refl, sym, ap, _∙_}
-use Prim.Native.Nat.{ℕ, suc, _+_, _-_, _≤_, _<_}
-use mathlib.Core.List.{List, [], _∷_, _++_}
+use mathlib.Core.Path.{_≡_, refl, _∙_}
+use Prim.Native.Nat.{_-_, _≤_}
 use lib.ListN.{length, take, drop}
 use Rattle.quote_tags.specs.Tags.{NextBracket}
 use Rattle.quote_lines.specs.Lines.{tags}
@@ -11,10 +10,6 @@ use Rattle.quote_losses.proofs.Recording.{Recorded, recorded, recorded-
 use Rattle.quote_losses.proofs.Depths.{Deepening, deepening, deepening-on, deep-end}
 use Rattle.quote_losses.proofs.loss.list_losses.Statement.{statement}
 use Rattle.quote_losses.proofs.loss.list_losses.Tie as tie
-use Rattle.quote_losses.proofs.loss.list_losses.Reads as reads
-use Rattle.quote_losses.proofs.loss.list_losses.Lts as lts
-use Rattle.quote_losses.proofs.loss.list_token.Reads as list-token-reads
-use Rattle.text.proofs.scan.next_bracket.Reads as next-bracket-reads
 
 abbrev Inv-loop : tie.InvT-loop
 Inv-loop source post numbers₀ base count loss-bytes₀ st₀ i₀ numbers loss-bytes st i =

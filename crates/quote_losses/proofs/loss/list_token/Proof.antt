@@ -1,9 +1,7 @@
 use borrow.Author.Needs.{needs}
 use native.Mathlib.Omega.{arith}
-use mathlib.Core.Path.{_≡_, refl, sym, ap, _∙_}
-use Prim.Native.Nat.{ℕ, suc, _+_, _-_, _≤_, _<_}
-use mathlib.Core.List.{List, [], _∷_, _++_}
-use lib.ListN.{length, getD}
+use mathlib.Core.Path.{refl, sym}
+use Prim.Native.Nat.{_-_}
 use Rattle.quote_tags.specs.Tags.{closers, closerSize}
 use Rattle.quote_tags.proofs.Tagging.{behind-within}
 use lib.Seq.{length-take-le}
@@ -11,15 +9,6 @@ use Rattle.quote_losses.proofs.Recording.{attribution-part, opener-room
 use Rattle.quote_losses.proofs.Depths.{depth-opener, depth-closer, depth-text}
 use Rattle.quote_losses.proofs.loss.list_token.Statement.{statement}
 use Rattle.quote_losses.proofs.loss.list_token.Tie as tie
-use Rattle.quote_losses.proofs.loss.list_token.Reads as reads
-use Rattle.quote_losses.proofs.loss.list_token.Lts as lts
-use Rattle.attribution_losses.proofs.loss.put_losses.Reads as put-losses-reads
-use Rattle.quote_lines.proofs.search.attribution_size.Reads as attribution-size-reads
-use Rattle.quote_lines.proofs.search.line_of.Reads as line-of-reads
-use Rattle.quote_tags.proofs.tag.tag_at.Reads as tag-at-reads
-use Rattle.quote_tags.proofs.tag.next_tag.Reads as next-tag-reads
-use Rattle.quote_losses.proofs.deep.open_less.Reads as open-less-reads
-use Rattle.quote_losses.proofs.deep.open_more.Reads as open-more-reads
 
 tag-at-requires : tie.Need-tag-at-requires
 tag-at-requires c κs = search needs

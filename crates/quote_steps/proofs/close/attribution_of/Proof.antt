@@ -1,16 +1,9 @@
 use borrow.Author.Needs.{needs}
 use native.Mathlib.Omega.{arith}
-use mathlib.Core.Path.{_≡_, refl, sym, ap, _∙_}
-use Prim.Native.Nat.{ℕ, suc, _+_, _-_, _≤_, _<_}
-use mathlib.Core.List.{List, [], _∷_, _++_}
-use lib.ListN.{length, getD}
+use Prim.Native.Nat.{_-_}
 use Rattle.quote_steps.proofs.Joining.{opener-inside, attribution-missing, attribution-there}
 use Rattle.quote_steps.proofs.close.attribution_of.Statement.{statement}
 use Rattle.quote_steps.proofs.close.attribution_of.Tie as tie
-use Rattle.quote_steps.proofs.close.attribution_of.Reads as reads
-use Rattle.quote_steps.proofs.close.attribution_of.Lts as lts
-use Rattle.quote_tags.proofs.tag.opener_size.Reads as opener-size-reads
-use Rattle.text.proofs.scan.next_bracket.Reads as next-bracket-reads
 
 next-bracket-requires : tie.Need-next-bracket-requires
 next-bracket-requires c κs = search needs

@@ -1,18 +1,12 @@
 use borrow.Author.Needs.{needs}
 use native.Mathlib.Omega.{arith}
-use mathlib.Core.Path.{_≡_, refl, sym, ap, _∙_}
-use Prim.Native.Nat.{ℕ, suc, _+_, _-_, _≤_, _<_}
-use mathlib.Core.List.{List, [], _∷_, _++_}
-use lib.ListN.{length, getD}
+use mathlib.Core.Path.{sym}
+use Prim.Native.Nat.{_-_, _≤_}
+use lib.ListN.{length}
 use lib.Seq.{length-take-le}
 use Rattle.quote_steps.proofs.Joining.{joined-is, block-joined, block-unjoined}
 use Rattle.quote_steps.proofs.close.build_block.Statement.{statement}
 use Rattle.quote_steps.proofs.close.build_block.Tie as tie
-use Rattle.quote_steps.proofs.close.build_block.Reads as reads
-use Rattle.quote_steps.proofs.close.build_block.Lts as lts
-use Rattle.attribution_losses.proofs.join.join_texts.Reads as join-texts-reads
-use Rattle.quote_blocks.proofs.block.quote_block.Reads as quote-block-reads
-use Rattle.quote_steps.proofs.close.attribution_of.Reads as attribution-of-reads
 
 slice-reshare-prefix-attribution-of : tie.Need-slice-reshare-prefix-attribution-of
 slice-reshare-prefix-attribution-of c = search needs

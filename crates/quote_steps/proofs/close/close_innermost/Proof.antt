@@ -1,18 +1,11 @@
 use borrow.Author.Needs.{needs}
 use native.Mathlib.Omega.{arith}
-use mathlib.Core.Path.{_≡_, refl, sym, ap, _∙_}
-use Prim.Native.Nat.{ℕ, suc, _+_, _-_, _≤_, _<_}
-use mathlib.Core.List.{List, [], _∷_, _++_}
-use lib.ListN.{length, getD}
+use Prim.Native.Nat.{_-_, _≤_}
+use lib.ListN.{length}
 use Rattle.quote_steps.proofs.Passing.{closes-last, closing-keeps}
 use Rattle.attribution_parts.specs.Attribution.{caption}
 use Rattle.quote_steps.proofs.close.close_innermost.Statement.{statement}
 use Rattle.quote_steps.proofs.close.close_innermost.Tie as tie
-use Rattle.quote_steps.proofs.close.close_innermost.Reads as reads
-use Rattle.quote_steps.proofs.close.close_innermost.Lts as lts
-use Rattle.quote_steps.proofs.close.close_quote.Reads as close-quote-reads
-use Rattle.quote_steps.proofs.close.start_of.Reads as start-of-reads
-use Rattle.quote_steps.proofs.close.tag_of.Reads as tag-of-reads
 
 sub-start-of : tie.Need-sub-start-of
 sub-start-of c = search needs

@@ -1,17 +1,10 @@
 use borrow.Author.Needs.{needs}
 use native.Mathlib.Omega.{arith}
-use mathlib.Core.Path.{_≡_, refl, sym, ap, _∙_}
-use Prim.Native.Nat.{ℕ, suc, _+_, _-_, _≤_, _<_}
-use mathlib.Core.List.{List, [], _∷_, _++_}
-use lib.ListN.{length, getD}
+use Prim.Native.Nat.{_-_}
 use Rattle.quote_steps.proofs.Passing.{block-closes, block-closes-full}
 use Rattle.quote_blocks.specs.Quotes.{quoteBlock}
 use Rattle.quote_steps.proofs.close.close_quote.Statement.{statement}
 use Rattle.quote_steps.proofs.close.close_quote.Tie as tie
-use Rattle.quote_steps.proofs.close.close_quote.Reads as reads
-use Rattle.quote_steps.proofs.close.close_quote.Lts as lts
-use Rattle.quote_steps.proofs.close.build_block.Reads as build-block-reads
-use Rattle.text.proofs.area.copy_in.Reads as copy-in-reads
 
 build-block-requires : tie.Need-build-block-requires
 build-block-requires c κs = search needs

@@ -1,13 +1,8 @@
 use borrow.Author.Needs.{needs}
 use native.Mathlib.Omega.{arith}
-use mathlib.Core.Path.{_≡_, refl, sym, ap, _∙_}
-use Prim.Native.Nat.{ℕ, suc, _+_, _-_, _≤_, _<_}
-use mathlib.Core.List.{List, [], _∷_, _++_}
-use lib.ListN.{length, getD}
+use Prim.Native.Nat.{_-_}
 use Rattle.quote_steps.proofs.close.start_of.Statement.{statement}
 use Rattle.quote_steps.proofs.close.start_of.Tie as tie
-use Rattle.quote_steps.proofs.close.start_of.Reads as reads
-use Rattle.quote_steps.proofs.close.start_of.Lts as lts
 
 mul-s : tie.Need-mul-s
 mul-s c = search needs

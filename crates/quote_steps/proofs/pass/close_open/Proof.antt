@@ -1,18 +1,14 @@
 use borrow.Author.Needs.{needs}
 use native.Mathlib.Omega.{arith}
-use mathlib.Core.Path.{_≡_, refl, sym, ap, _∙_}
-use Prim.Native.Nat.{ℕ, suc, _+_, _-_, _≤_, _<_}
-use mathlib.Core.List.{List, [], _∷_, _++_}
-use lib.ListN.{length, getD}
+use mathlib.Core.Path.{_≡_, refl, _∙_}
+use Prim.Native.Nat.{_-_, _≤_}
+use lib.ListN.{length}
 use lib.ListN.{take}
 use Rattle.quote_steps.proofs.Passing.{ClosingAll, closing-start, all-end, all-on, all-full}
 use Rattle.text.specs.Cells.{cells}
 use Rattle.attribution_parts.specs.Attribution.{caption}
 use Rattle.quote_steps.proofs.pass.close_open.Statement.{statement}
 use Rattle.quote_steps.proofs.pass.close_open.Tie as tie
-use Rattle.quote_steps.proofs.pass.close_open.Reads as reads
-use Rattle.quote_steps.proofs.pass.close_open.Lts as lts
-use Rattle.quote_steps.proofs.close.close_innermost.Reads as close-innermost-reads
 
 abbrev Inv-loop : tie.InvT-loop
 Inv-loop work₀ numbers₀ e base end starts tags depth out₀ origins₀ to₀ open₀ work numbers out origins to «open» = ((length work ≡ length work₀) × (length numbers ≡ length numbers₀)) × ((length out ≡ length out₀) × (length origins ≡ length origins₀)) × ((base ≤ to) × (to ≤ end)) × ((«open» ≤ depth) × (take e work ≡ take e work₀)) × ClosingAll caption e base end (take end (cells work₀ numbers₀)) to₀ starts tags depth work numbers to «open»

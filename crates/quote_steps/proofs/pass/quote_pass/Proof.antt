@@ -1,17 +1,11 @@
 use borrow.Author.Needs.{needs}
 use native.Mathlib.Omega.{arith}
-use mathlib.Core.Path.{_≡_, refl, sym, ap, _∙_}
-use Prim.Native.Nat.{ℕ, suc, _+_, _-_, _≤_, _<_}
-use mathlib.Core.List.{List, [], _∷_, _++_}
-use lib.ListN.{length, getD}
+use mathlib.Core.Path.{_∙_}
+use Prim.Native.Nat.{_-_}
 use Rattle.quote_steps.proofs.Passing.{pass-full, pass-done}
 use Rattle.attribution_parts.specs.Attribution.{caption}
 use Rattle.quote_steps.proofs.pass.quote_pass.Statement.{statement}
 use Rattle.quote_steps.proofs.pass.quote_pass.Tie as tie
-use Rattle.quote_steps.proofs.pass.quote_pass.Reads as reads
-use Rattle.quote_steps.proofs.pass.quote_pass.Lts as lts
-use Rattle.quote_steps.proofs.pass.close_open.Reads as close-open-reads
-use Rattle.quote_steps.proofs.pass.take_tokens.Reads as take-tokens-reads
 
 slice-aggregate-take-tokens : tie.Need-slice-aggregate-take-tokens
 slice-aggregate-take-tokens c = search needs

@@ -1,9 +1,9 @@
 use borrow.Author.Needs.{needs}
 use native.Mathlib.Omega.{arith}
-use mathlib.Core.Path.{_≡_, refl, sym, ap, _∙_}
-use Prim.Native.Nat.{ℕ, suc, _+_, _-_, _≤_, _<_}
-use mathlib.Core.List.{List, [], _∷_, _++_}
-use lib.ListN.{length, getD}
+use mathlib.Core.Path.{_≡_, refl, sym, _∙_}
+use Prim.Native.Nat.{ℕ, _+_, _-_, _≤_}
+use mathlib.Core.List.{List}
+use lib.ListN.{length}
 use lib.Seq.{length-take-le}
 use lib.ListN.{take}
 use mathlib.Core.Path.{subst}
@@ -14,12 +14,6 @@ use Rattle.quote_tags.specs.Tags.{NextBracket, openers, closers, openerSize, cl
 use Rattle.attribution_parts.specs.Attribution.{caption}
 use Rattle.quote_steps.proofs.pass.take_token.Statement.{statement}
 use Rattle.quote_steps.proofs.pass.take_token.Tie as tie
-use Rattle.quote_steps.proofs.pass.take_token.Reads as reads
-use Rattle.quote_steps.proofs.pass.take_token.Lts as lts
-use Rattle.quote_steps.proofs.close.close_innermost.Reads as close-innermost-reads
-use Rattle.quote_tags.proofs.tag.tag_at.Reads as tag-at-reads
-use Rattle.text.proofs.area.copy_within.Reads as copy-within-reads
-use Rattle.quote_tags.proofs.tag.next_tag.Reads as next-tag-reads
 
 slice-reshare-prefix-tag-at : tie.Need-slice-reshare-prefix-tag-at
 slice-reshare-prefix-tag-at c = let p = c .before .before .before .before .before .before .before .before .before .pre in omega (arith, p .0 .0 .1 .0, p .0 .0 .1 .1 .0, p .0 .0 .1 .1 .1, p .0 .1 .0 .0)

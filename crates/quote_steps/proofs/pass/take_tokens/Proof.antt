@@ -1,9 +1,8 @@
 use borrow.Author.Needs.{needs}
 use native.Mathlib.Omega.{arith}
-use mathlib.Core.Path.{_≡_, refl, sym, ap, _∙_}
-use Prim.Native.Nat.{ℕ, suc, _+_, _-_, _≤_, _<_}
-use mathlib.Core.List.{List, [], _∷_, _++_}
-use lib.ListN.{length, getD}
+use mathlib.Core.Path.{_≡_, refl, sym, _∙_}
+use Prim.Native.Nat.{_-_, _≤_}
+use lib.ListN.{length}
 use lib.ListN.{take}
 use lib.Seq.{length-take-le}
 use Rattle.quote_steps.proofs.Passing.{RunningIn, run-start, run-room, run-done, run-on, run-full}
@@ -11,10 +10,6 @@ use Rattle.quote_tags.specs.Tags.{NextBracket}
 use Rattle.attribution_parts.specs.Attribution.{caption}
 use Rattle.quote_steps.proofs.pass.take_tokens.Statement.{statement}
 use Rattle.quote_steps.proofs.pass.take_tokens.Tie as tie
-use Rattle.quote_steps.proofs.pass.take_tokens.Reads as reads
-use Rattle.quote_steps.proofs.pass.take_tokens.Lts as lts
-use Rattle.quote_steps.proofs.pass.take_token.Reads as take-token-reads
-use Rattle.text.proofs.scan.next_bracket.Reads as next-bracket-reads
 
 abbrev Inv-loop : tie.InvT-loop
 Inv-loop work₀ numbers₀ e base end starts₀ tags₀ out₀ origins₀ st₀ i₀ work numbers starts tags out origins st i = ((length work ≡ length work₀) × (length numbers ≡ length numbers₀)) × ((length out ≡ length out₀) × (length origins ≡ length origins₀)) × ((length starts ≡ length starts₀) × (length tags ≡ length tags₀)) × ((i ≡ st .at .0) × (i ≤ e)) × ((base ≤ st .to .0) × ((st .to .0 ≤ end) × (st .depth ≤ 64))) × ((take e work ≡ take e work₀) × NextBracket (take e work) (st .at .0) (st .bracket .0)) × ((he : e ≤ base) (hp : base ≤ end) (hb : end ≤ length work₀) (hn : end ≤ length numbers₀) → RunningIn caption e base end work₀ numbers₀ he hp hb hn work numbers (st .to .0) starts tags (st .depth) (st .at .0))

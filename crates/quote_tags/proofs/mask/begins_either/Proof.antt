@@ -1,15 +1,9 @@
 use borrow.Author.Needs.{needs}
-use native.Mathlib.Omega.{arith}
-use mathlib.Core.Path.{_≡_, refl, sym, ap, _∙_}
-use Prim.Native.Nat.{ℕ, suc, _+_, _-_, _≤_, _<_}
-use mathlib.Core.List.{List, [], _∷_, _++_}
-use lib.ListN.{length, getD}
-use Rattle.quote_tags.proofs.Tagging.{any-here, any-later, any-none, any-last}
+use mathlib.Core.Path.{sym}
+use Prim.Native.Nat.{_-_}
+use Rattle.quote_tags.proofs.Tagging.{any-here, any-later, any-last}
 use Rattle.quote_tags.proofs.mask.begins_either.Statement.{statement}
 use Rattle.quote_tags.proofs.mask.begins_either.Tie as tie
-use Rattle.quote_tags.proofs.mask.begins_either.Reads as reads
-use Rattle.quote_tags.proofs.mask.begins_either.Lts as lts
-use Rattle.text.proofs.scan.begins_at.Reads as begins-at-reads
 
 begins-at-requires : tie.Need-begins-at-requires
 begins-at-requires c κs = search needs

@@ -1,8 +1,6 @@
 use borrow.Author.Tests.{ne-eqb}
 use Rattle.quote_tags.proofs.mask.blank_for.Statement.{statement}
 use Rattle.quote_tags.proofs.mask.blank_for.Tie as tie
-use Rattle.quote_tags.proofs.mask.blank_for.Reads as reads
-use Rattle.quote_tags.proofs.mask.blank_for.Lts as lts
 
 returns : tie.Need-returns
 returns c = rw (c .if1 .taken)

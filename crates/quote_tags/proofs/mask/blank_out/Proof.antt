@@ -6,10 +6,6 @@ use Rattle.quote_tags.proofs.Masking.{blanked-by}
 use Rattle.quote_tags.proofs.Moving.{Moving, moving, moving-on, moving-end}
 use Rattle.quote_tags.proofs.mask.blank_out.Statement.{statement}
 use Rattle.quote_tags.proofs.mask.blank_out.Tie as tie
-use Rattle.quote_tags.proofs.mask.blank_out.Reads as reads
-use Rattle.quote_tags.proofs.mask.blank_out.Lts as lts
-use Rattle.quote_tags.proofs.mask.blank_for.Reads as blank-for-reads
-use Rattle.quote_tags.proofs.mask.characters_by.Reads as characters-by-reads
 
 abbrev Inv-loop : tie.InvT-loop
 Inv-loop buf₀ a e to i₀ t₀ buf i t = Moving blanked buf₀ a e to buf i t

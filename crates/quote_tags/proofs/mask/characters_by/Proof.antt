@@ -2,9 +2,6 @@ use borrow.Author.Needs.{needs}
 use mathlib.Core.Path.{sym, _∙_}
 use Rattle.quote_tags.proofs.mask.characters_by.Statement.{statement}
 use Rattle.quote_tags.proofs.mask.characters_by.Tie as tie
-use Rattle.quote_tags.proofs.mask.characters_by.Reads as reads
-use Rattle.quote_tags.proofs.mask.characters_by.Lts as lts
-use Rattle.text.proofs.scan.is_inside.Reads as is-inside-reads
 
 is-inside-requires : tie.Need-is-inside-requires
 is-inside-requires c κs = search needs

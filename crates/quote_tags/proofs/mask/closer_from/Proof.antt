@@ -1,16 +1,8 @@
 use borrow.Author.Needs.{needs}
-use native.Mathlib.Omega.{arith}
-use mathlib.Core.Path.{_≡_, refl, sym, ap, _∙_}
-use Prim.Native.Nat.{ℕ, suc, _+_, _-_, _≤_, _<_}
-use mathlib.Core.List.{List, [], _∷_, _++_}
-use lib.ListN.{length, getD}
-use native.Mathlib.Nat.{le-refl}
+use Prim.Native.Nat.{_-_}
 use Rattle.quote_tags.proofs.Masking.{known-closer}
 use Rattle.quote_tags.proofs.mask.closer_from.Statement.{statement}
 use Rattle.quote_tags.proofs.mask.closer_from.Tie as tie
-use Rattle.quote_tags.proofs.mask.closer_from.Reads as reads
-use Rattle.quote_tags.proofs.mask.closer_from.Lts as lts
-use Rattle.quote_tags.proofs.mask.next_closer.Reads as next-closer-reads
 
 returns : tie.Need-returns
 returns c = let p = c .before .before .before .before .before .before .before .pre in (p .1 .at _ (p .0 .0) (c .before .if1 .taken) (c .if2 .taken), p .1)

@@ -1,19 +1,13 @@
 use borrow.Author.Needs.{needs}
 use native.Mathlib.Omega.{arith}
-use mathlib.Core.Path.{_≡_, refl, sym, ap, _∙_}
-use Prim.Native.Nat.{ℕ, suc, _+_, _-_, _≤_, _<_}
-use mathlib.Core.List.{List, [], _∷_, _++_}
-use lib.ListN.{length, getD, drop}
+use Prim.Native.Nat.{_-_, _≤_}
+use lib.ListN.{length, drop}
 use mathlib.Core.Bool.{true≢false}
 use Rattle.quote_tags.specs.Masks.{NoMask}
 use Rattle.quote_tags.proofs.Places.{Between, between-then, between-one}
 use Rattle.quote_tags.proofs.Unmasking.{visible-same}
 use Rattle.quote_tags.proofs.mask.has_mask.Statement.{statement}
 use Rattle.quote_tags.proofs.mask.has_mask.Tie as tie
-use Rattle.quote_tags.proofs.mask.has_mask.Reads as reads
-use Rattle.quote_tags.proofs.mask.has_mask.Lts as lts
-use Rattle.quote_tags.proofs.mask.next_mask.Reads as next-mask-reads
-use Rattle.quote_tags.proofs.mask.opens_mask.Reads as opens-mask-reads
 
 abbrev Inv-loop : tie.InvT-loop
 Inv-loop s i₀ i = (i ≤ length s) × Between (λ j. NoMask (drop j s)) 0 i

@@ -8,13 +8,6 @@ use Rattle.quote_tags.proofs.Masking.{Masking, begin, bracket-now, clos
 use Rattle.quote_tags.proofs.Moving.{run-inside, region-inside, moved, moved-one, blanked-out, size-now}
 use Rattle.quote_tags.proofs.mask.mask.Statement.{statement}
 use Rattle.quote_tags.proofs.mask.mask.Tie as tie
-use Rattle.quote_tags.proofs.mask.mask.Reads as reads
-use Rattle.quote_tags.proofs.mask.mask.Lts as lts
-use Rattle.quote_tags.proofs.mask.blank_out.Reads as blank-out-reads
-use Rattle.quote_tags.proofs.mask.move_down.Reads as move-down-reads
-use Rattle.quote_tags.proofs.mask.next_opener.Reads as next-opener-reads
-use Rattle.quote_tags.proofs.mask.region_at.Reads as region-at-reads
-use Rattle.text.proofs.scan.next_bracket.Reads as next-bracket-reads
 
 abbrev Inv-loop : tie.InvT-loop
 Inv-loop buf₀ n letter2 letter3 opener opener2 first second i₀ to₀ bracket₀ closer₀ buf i to bracket closer = Masking (record { opens = opener ∷ opener2 ∷ []; closes = first ∷ second ∷ [] }) buf₀ n buf i to (bracket .0) (closer .from .0) (closer .at .0)

@@ -1,16 +1,10 @@
 use borrow.Author.Needs.{needs}
 use native.Mathlib.Omega.{arith}
-use mathlib.Core.Path.{_≡_, refl, sym, ap, _∙_}
-use Prim.Native.Nat.{ℕ, suc, _+_, _-_, _≤_, _<_}
-use mathlib.Core.List.{List, [], _∷_, _++_}
-use lib.ListN.{length, getD}
+use mathlib.Core.Path.{sym}
+use Prim.Native.Nat.{_-_}
 use lib.Seq.{length-take-le}
 use Rattle.quote_tags.proofs.mask.mask_all.Statement.{statement}
 use Rattle.quote_tags.proofs.mask.mask_all.Tie as tie
-use Rattle.quote_tags.proofs.mask.mask_all.Reads as reads
-use Rattle.quote_tags.proofs.mask.mask_all.Lts as lts
-use Rattle.quote_tags.proofs.mask.has_mask.Reads as has-mask-reads
-use Rattle.quote_tags.proofs.mask.mask_each.Reads as mask-each-reads
 
 -- src/mask.rt:300:17
 slice-reshare-prefix-has-mask : tie.Need-slice-reshare-prefix-has-mask

@@ -1,17 +1,12 @@
 use borrow.Author.Needs.{needs}
 use native.Mathlib.Omega.{arith}
-use mathlib.Core.Path.{_≡_, refl, sym, ap, _∙_}
-use Prim.Native.Nat.{ℕ, suc, _+_, _-_, _≤_, _<_}
-use mathlib.Core.List.{List, [], _∷_, _++_}
-use lib.ListN.{length, getD}
+use mathlib.Core.Path.{_∙_}
+use Prim.Native.Nat.{_-_}
 use Rattle.quote_tags.proofs.Masking.{visible-by, region-same, masked-same, any-twice, same-any}
 use Rattle.quote_tags.proofs.Unmasking.{code-by-c, icode-by-c, noparse-by-n}
 use Rattle.quote_tags.specs.Masks.{code, icode, noparse}
 use Rattle.quote_tags.proofs.mask.mask_each.Statement.{statement}
 use Rattle.quote_tags.proofs.mask.mask_each.Tie as tie
-use Rattle.quote_tags.proofs.mask.mask_each.Reads as reads
-use Rattle.quote_tags.proofs.mask.mask_each.Lts as lts
-use Rattle.quote_tags.proofs.mask.mask.Reads as mask-reads
 
 slice-aggregate-mask : tie.Need-slice-aggregate-mask
 slice-aggregate-mask c = search needs

@@ -1,18 +1,14 @@
 use borrow.Author.Needs.{needs}
 use native.Mathlib.Omega.{arith}
-use mathlib.Core.Path.{_≡_, refl, sym, ap, _∙_}
-use Prim.Native.Nat.{ℕ, suc, _+_, _-_, _≤_, _<_}
-use mathlib.Core.List.{List, [], _∷_, _++_}
-use lib.ListN.{length, getD, drop}
+use mathlib.Core.Path.{_≡_, refl}
+use Prim.Native.Nat.{_+_, _-_, _≤_}
+use lib.ListN.{drop}
 use mathlib.Core.Bool.{false}
 use Rattle.quote_tags.specs.Masks.{NoMask}
 use Rattle.quote_tags.proofs.Places.{Between}
 use Rattle.quote_tags.proofs.Unmasking.{block-turn}
 use Rattle.quote_tags.proofs.mask.mask_in_16.Statement.{statement}
 use Rattle.quote_tags.proofs.mask.mask_in_16.Tie as tie
-use Rattle.quote_tags.proofs.mask.mask_in_16.Reads as reads
-use Rattle.quote_tags.proofs.mask.mask_in_16.Lts as lts
-use Rattle.quote_tags.proofs.mask.may_open.Reads as may-open-reads
 
 abbrev Inv-loop : tie.InvT-loop
 Inv-loop s i stands₀ k₀ stands k = (k ≤ 16) × (stands ≡ false → Between (λ j. NoMask (drop j s)) i (i + k))

@@ -6,8 +6,6 @@ use mathlib.Core.List.{[], _∷_}
 use Rattle.quote_tags.proofs.Moving.{Moving, moved-none, moving, moving-on, moving-end}
 use Rattle.quote_tags.proofs.mask.move_down.Statement.{statement}
 use Rattle.quote_tags.proofs.mask.move_down.Tie as tie
-use Rattle.quote_tags.proofs.mask.move_down.Reads as reads
-use Rattle.quote_tags.proofs.mask.move_down.Lts as lts
 
 abbrev Inv-loop : tie.InvT-loop
 Inv-loop buf₀ a e to i₀ t₀ buf i t = Moving (λ b. b ∷ []) buf₀ a e to buf i t

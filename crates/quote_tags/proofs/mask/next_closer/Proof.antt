@@ -1,15 +1,12 @@
 use borrow.Author.Needs.{needs}
 use native.Mathlib.Omega.{arith}
-use mathlib.Core.Path.{_≡_, refl, sym, ap, _∙_}
-use Prim.Native.Nat.{ℕ, suc, _+_, _-_, _≤_, _<_}
-use mathlib.Core.List.{List, [], _∷_, _++_}
-use lib.ListN.{length, getD}
+use mathlib.Core.Path.{sym, _∙_}
+use Prim.Native.Nat.{_-_}
+use mathlib.Core.List.{[], _∷_}
+use lib.ListN.{length}
 use Rattle.quote_tags.proofs.Masking.{Seeks, seek, seek-here, seek-on, seek-end}
 use Rattle.quote_tags.proofs.mask.next_closer.Statement.{statement}
 use Rattle.quote_tags.proofs.mask.next_closer.Tie as tie
-use Rattle.quote_tags.proofs.mask.next_closer.Reads as reads
-use Rattle.quote_tags.proofs.mask.next_closer.Lts as lts
-use Rattle.quote_tags.proofs.mask.begins_either.Reads as begins-either-reads
 
 abbrev Inv-loop : tie.InvT-loop
 Inv-loop s first second i₀ i = Seeks (first ∷ second ∷ []) s i₀ i

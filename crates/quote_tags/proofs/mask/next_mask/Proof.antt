@@ -1,19 +1,12 @@
 use borrow.Author.Needs.{needs}
-use native.Mathlib.Omega.{arith}
-use mathlib.Core.Path.{_≡_, refl, sym, ap, _∙_}
-use Prim.Native.Nat.{ℕ, suc, _+_, _-_, _≤_, _<_}
-use mathlib.Core.List.{List, [], _∷_, _++_}
-use lib.ListN.{length, getD}
+use mathlib.Core.Path.{refl}
+use Prim.Native.Nat.{_-_}
+use lib.ListN.{length}
 use Rattle.quote_tags.specs.Masks.{NoMask}
 use Rattle.quote_tags.proofs.Places.{Run, run-none, run-then, run-on}
 use Rattle.quote_tags.proofs.Unmasking.{not-open-at}
 use Rattle.quote_tags.proofs.mask.next_mask.Statement.{statement}
 use Rattle.quote_tags.proofs.mask.next_mask.Tie as tie
-use Rattle.quote_tags.proofs.mask.next_mask.Reads as reads
-use Rattle.quote_tags.proofs.mask.next_mask.Lts as lts
-use Rattle.quote_tags.proofs.mask.may_open.Reads as may-open-reads
-use Rattle.quote_tags.proofs.mask.past_16s.Reads as past-16s-reads
-use Rattle.text.proofs.scan.byte_at.Reads as byte-at-reads
 
 abbrev Inv-loop : tie.InvT-loop
 Inv-loop s i₀ i = Run NoMask s i₀ i

@@ -1,19 +1,12 @@
 use borrow.Author.Needs.{needs}
-use native.Mathlib.Omega.{arith}
-use mathlib.Core.Path.{_≡_, refl, sym, ap, _∙_}
-use Prim.Native.Nat.{ℕ, suc, _+_, _-_, _≤_, _<_}
-use mathlib.Core.List.{List, [], _∷_, _++_}
-use lib.ListN.{length, getD}
+use mathlib.Core.Path.{refl}
+use Prim.Native.Nat.{_-_}
+use lib.ListN.{length}
 use Rattle.quote_tags.specs.Masks.{NoOpener}
 use Rattle.quote_tags.proofs.Places.{Run, run-none, run-then, run-on}
 use Rattle.quote_tags.proofs.Unmasking.{not-open-at}
 use Rattle.quote_tags.proofs.mask.next_opener.Statement.{statement}
 use Rattle.quote_tags.proofs.mask.next_opener.Tie as tie
-use Rattle.quote_tags.proofs.mask.next_opener.Reads as reads
-use Rattle.quote_tags.proofs.mask.next_opener.Lts as lts
-use Rattle.quote_tags.proofs.mask.may_open_by.Reads as may-open-by-reads
-use Rattle.quote_tags.proofs.mask.past_32s.Reads as past-32s-reads
-use Rattle.text.proofs.scan.byte_at.Reads as byte-at-reads
 
 abbrev Inv-loop : tie.InvT-loop
 Inv-loop s letter2 letter3 i₀ i = Run (NoOpener letter2 letter3) s i₀ i

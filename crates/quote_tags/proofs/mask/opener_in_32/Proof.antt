@@ -1,18 +1,14 @@
 use borrow.Author.Needs.{needs}
 use native.Mathlib.Omega.{arith}
-use mathlib.Core.Path.{_≡_, refl, sym, ap, _∙_}
-use Prim.Native.Nat.{ℕ, suc, _+_, _-_, _≤_, _<_}
-use mathlib.Core.List.{List, [], _∷_, _++_}
-use lib.ListN.{length, getD, drop}
+use mathlib.Core.Path.{_≡_, refl}
+use Prim.Native.Nat.{_+_, _-_, _≤_}
+use lib.ListN.{drop}
 use mathlib.Core.Bool.{false}
 use Rattle.quote_tags.specs.Masks.{NoOpener}
 use Rattle.quote_tags.proofs.Places.{Between}
 use Rattle.quote_tags.proofs.Unmasking.{block-turn}
 use Rattle.quote_tags.proofs.mask.opener_in_32.Statement.{statement}
 use Rattle.quote_tags.proofs.mask.opener_in_32.Tie as tie
-use Rattle.quote_tags.proofs.mask.opener_in_32.Reads as reads
-use Rattle.quote_tags.proofs.mask.opener_in_32.Lts as lts
-use Rattle.quote_tags.proofs.mask.may_open_by.Reads as may-open-by-reads
 
 abbrev Inv-loop : tie.InvT-loop
 Inv-loop s i letter2 letter3 stands₀ k₀ stands k = (k ≤ 32) × (stands ≡ false → Between (λ j. NoOpener letter2 letter3 (drop j s)) i (i + k))

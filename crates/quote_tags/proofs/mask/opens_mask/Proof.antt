@@ -1,20 +1,13 @@
 use borrow.Author.Needs.{needs}
 use native.Mathlib.Omega.{arith}
-use mathlib.Core.Path.{_≡_, refl, sym, ap, _∙_}
-use Prim.Native.Nat.{ℕ, suc, _+_, _-_, _≤_, _<_}
-use mathlib.Core.List.{List, [], _∷_, _++_}
-use lib.ListN.{length, getD}
+use mathlib.Core.Path.{sym, _∙_}
+use Prim.Native.Nat.{_-_}
 use mathlib.Core.Bool.{true≢false}
 use lib.ListN.{drop}
 use Rattle.quote_tags.proofs.Plain.{second-not}
 use Rattle.quote_tags.proofs.Unmasking.{no-mask}
 use Rattle.quote_tags.proofs.mask.opens_mask.Statement.{statement}
 use Rattle.quote_tags.proofs.mask.opens_mask.Tie as tie
-use Rattle.quote_tags.proofs.mask.opens_mask.Reads as reads
-use Rattle.quote_tags.proofs.mask.opens_mask.Lts as lts
-use Rattle.text.proofs.scan.begins_at.Reads as begins-at-reads
-use Rattle.text.proofs.scan.byte_at.Reads as byte-at-reads
-use Rattle.text.proofs.scan.small_of.Reads as small-of-reads
 
 -- src/mask.rt:260:38
 add-byte-at : tie.Need-add-byte-at

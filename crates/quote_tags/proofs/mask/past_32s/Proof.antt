@@ -1,16 +1,10 @@
 use borrow.Author.Needs.{needs}
-use native.Mathlib.Omega.{arith}
-use mathlib.Core.Path.{_≡_, refl, sym, ap, _∙_}
-use Prim.Native.Nat.{ℕ, suc, _+_, _-_, _≤_, _<_}
-use mathlib.Core.List.{List, [], _∷_, _++_}
-use lib.ListN.{length, getD}
+use Prim.Native.Nat.{_-_}
+use lib.ListN.{length}
 use Rattle.quote_tags.specs.Masks.{NoOpener}
 use Rattle.quote_tags.proofs.Places.{Run, run-none, run-over}
 use Rattle.quote_tags.proofs.mask.past_32s.Statement.{statement}
 use Rattle.quote_tags.proofs.mask.past_32s.Tie as tie
-use Rattle.quote_tags.proofs.mask.past_32s.Reads as reads
-use Rattle.quote_tags.proofs.mask.past_32s.Lts as lts
-use Rattle.quote_tags.proofs.mask.opener_in_32.Reads as opener-in-32-reads
 
 abbrev Inv-loop : tie.InvT-loop
 Inv-loop s at letter2 letter3 i₀ i = Run (NoOpener letter2 letter3) s at i

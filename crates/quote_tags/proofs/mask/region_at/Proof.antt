@@ -1,20 +1,12 @@
 use borrow.Author.Needs.{needs}
 use native.Mathlib.Omega.{arith}
-use mathlib.Core.Path.{_≡_, refl, sym, ap, _∙_}
-use Prim.Native.Nat.{ℕ, suc, _+_, _-_, _≤_, _<_}
-use mathlib.Core.List.{List, [], _∷_, _++_}
-use lib.ListN.{length, getD}
+use mathlib.Core.Path.{sym, _∙_}
+use Prim.Native.Nat.{_-_, _≤_}
+use lib.ListN.{length}
 use Rattle.quote_tags.proofs.Tagging.{behind-within}
 use Rattle.quote_tags.proofs.Masking.{region-none, region-here, region-unclosed, closer-place}
-use Rattle.quote_tags.specs.Masks.{Mask}
 use Rattle.quote_tags.proofs.mask.region_at.Statement.{statement}
 use Rattle.quote_tags.proofs.mask.region_at.Tie as tie
-use Rattle.quote_tags.proofs.mask.region_at.Reads as reads
-use Rattle.quote_tags.proofs.mask.region_at.Lts as lts
-use Rattle.quote_tags.proofs.mask.closer_from.Reads as closer-from-reads
-use Rattle.quote_tags.proofs.mask.size_of_either.Reads as size-of-either-reads
-use Rattle.quote_tags.proofs.tag.bracket_from.Reads as bracket-from-reads
-use Rattle.text.proofs.scan.next_bracket.Reads as next-bracket-reads
 
 bracket-from-requires : tie.Need-bracket-from-requires
 bracket-from-requires c κs = search needs

@@ -1,16 +1,9 @@
 use borrow.Author.Needs.{needs}
-use native.Mathlib.Omega.{arith}
-use mathlib.Core.Path.{_≡_, refl, sym, ap, _∙_}
-use Prim.Native.Nat.{ℕ, suc, _+_, _-_, _≤_, _<_}
-use mathlib.Core.List.{List, [], _∷_, _++_}
-use lib.ListN.{length, getD}
+use mathlib.Core.Path.{sym, _∙_}
+use Prim.Native.Nat.{_-_}
 use Rattle.quote_tags.proofs.Tagging.{tag-is, tag-not}
 use Rattle.quote_tags.proofs.mask.size_of_either.Statement.{statement}
 use Rattle.quote_tags.proofs.mask.size_of_either.Tie as tie
-use Rattle.quote_tags.proofs.mask.size_of_either.Reads as reads
-use Rattle.quote_tags.proofs.mask.size_of_either.Lts as lts
-use Rattle.quote_tags.proofs.mask.begins_either.Reads as begins-either-reads
-use Rattle.quote_tags.proofs.tag.up_to_bracket.Reads as up-to-bracket-reads
 
 begins-either-requires : tie.Need-begins-either-requires
 begins-either-requires c κs = search needs

@@ -1,14 +1,7 @@
 use borrow.Author.Needs.{needs}
-use native.Mathlib.Omega.{arith}
-use mathlib.Core.Path.{_≡_, refl, sym, ap, _∙_}
-use Prim.Native.Nat.{ℕ, suc, _+_, _-_, _≤_, _<_}
-use mathlib.Core.List.{List, [], _∷_, _++_}
-use lib.ListN.{length, getD}
+use Prim.Native.Nat.{_-_}
 use Rattle.quote_tags.proofs.tag.bracket_from.Statement.{statement}
 use Rattle.quote_tags.proofs.tag.bracket_from.Tie as tie
-use Rattle.quote_tags.proofs.tag.bracket_from.Reads as reads
-use Rattle.quote_tags.proofs.tag.bracket_from.Lts as lts
-use Rattle.text.proofs.scan.next_bracket.Reads as next-bracket-reads
 
 returns : tie.Need-returns
 returns c = c .before .before .pre .1 (c .if1 .taken)

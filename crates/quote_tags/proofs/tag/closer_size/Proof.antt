@@ -1,17 +1,9 @@
 use borrow.Author.Needs.{needs}
-use native.Mathlib.Omega.{arith}
-use mathlib.Core.Path.{_≡_, refl, sym, ap, _∙_}
-use Prim.Native.Nat.{ℕ, suc, _+_, _-_, _≤_, _<_}
-use mathlib.Core.List.{List, [], _∷_, _++_}
-use lib.ListN.{length, getD}
+use Prim.Native.Nat.{_-_}
 use Rattle.quote_tags.proofs.Tagging.{tag-is, tag-not, any-here, any-later, any-none}
-use Rattle.quote_tags.specs.Tags.{openerSize, closerSize, tagSize, beginsAny}
+use Rattle.quote_tags.specs.Tags.{openerSize, closerSize}
 use Rattle.quote_tags.proofs.tag.closer_size.Statement.{statement}
 use Rattle.quote_tags.proofs.tag.closer_size.Tie as tie
-use Rattle.quote_tags.proofs.tag.closer_size.Reads as reads
-use Rattle.quote_tags.proofs.tag.closer_size.Lts as lts
-use Rattle.quote_tags.proofs.tag.up_to_bracket.Reads as up-to-bracket-reads
-use Rattle.text.proofs.scan.begins_at.Reads as begins-at-reads
 
 slice-aggregate-begins-at : tie.Need-slice-aggregate-begins-at
 slice-aggregate-begins-at c = search needs

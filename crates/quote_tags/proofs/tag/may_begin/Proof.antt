@@ -1,15 +1,8 @@
 use borrow.Author.Needs.{needs}
-use native.Mathlib.Omega.{arith}
-use mathlib.Core.Path.{_≡_, refl, sym, ap, _∙_}
-use Prim.Native.Nat.{ℕ, suc, _+_, _-_, _≤_, _<_}
-use mathlib.Core.List.{List, [], _∷_, _++_}
-use lib.ListN.{length, getD}
+use Prim.Native.Nat.{_-_}
 use Rattle.quote_tags.proofs.Plain.{not-bracket, not-tag}
 use Rattle.quote_tags.proofs.tag.may_begin.Statement.{statement}
 use Rattle.quote_tags.proofs.tag.may_begin.Tie as tie
-use Rattle.quote_tags.proofs.tag.may_begin.Reads as reads
-use Rattle.quote_tags.proofs.tag.may_begin.Lts as lts
-use Rattle.text.proofs.scan.byte_at.Reads as byte-at-reads
 
 shared-slice-read-if1 : tie.Need-shared-slice-read-if1
 shared-slice-read-if1 c = search needs

@@ -1,21 +1,13 @@
 use borrow.Author.Needs.{needs}
 use native.Mathlib.Omega.{arith}
 use native.Mathlib.Decide.{decLe}
-use mathlib.Core.Path.{_≡_, refl, sym, ap, _∙_}
-use Prim.Native.Nat.{ℕ, suc, _+_, _-_, _≤_, _<_}
-use mathlib.Core.List.{List, [], _∷_, _++_}
-use lib.ListN.{length, getD, drop}
+use Prim.Native.Nat.{_-_, _≤_, _<_}
+use lib.ListN.{length, drop}
 use Rattle.quote_tags.specs.Tags.{NoTag}
 use Rattle.quote_tags.proofs.Places.{Between, between-none}
 use Rattle.quote_tags.proofs.Plain.{run-past}
 use Rattle.quote_tags.proofs.tag.next_tag.Statement.{statement}
 use Rattle.quote_tags.proofs.tag.next_tag.Tie as tie
-use Rattle.quote_tags.proofs.tag.next_tag.Reads as reads
-use Rattle.quote_tags.proofs.tag.next_tag.Lts as lts
-use Rattle.quote_tags.proofs.tag.block_end.Reads as block-end-reads
-use Rattle.quote_tags.proofs.tag.past_16s.Reads as past-16s-reads
-use Rattle.quote_tags.proofs.tag.tag_before.Reads as tag-before-reads
-use Rattle.quote_tags.proofs.tag.two_back.Reads as two-back-reads
 
 abbrev Inv-loop : tie.InvT-loop
 Inv-loop s i₀ i = ((i₀ ≤ i) × (i ≤ length s)) × Between (λ j. NoTag (drop j s)) i₀ i

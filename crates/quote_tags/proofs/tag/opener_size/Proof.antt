@@ -1,17 +1,10 @@
 use borrow.Author.Needs.{needs}
-use native.Mathlib.Omega.{arith}
-use mathlib.Core.Path.{_≡_, refl, sym, ap, _∙_}
-use Prim.Native.Nat.{ℕ, suc, _+_, _-_, _≤_, _<_}
-use mathlib.Core.List.{List, [], _∷_, _++_}
-use lib.ListN.{length, getD}
+use mathlib.Core.Path.{sym, _∙_}
+use Prim.Native.Nat.{_-_}
 use Rattle.quote_tags.proofs.Tagging.{tag-is, tag-not}
 use Rattle.quote_tags.specs.Tags.{openerSize}
 use Rattle.quote_tags.proofs.tag.opener_size.Statement.{statement}
 use Rattle.quote_tags.proofs.tag.opener_size.Tie as tie
-use Rattle.quote_tags.proofs.tag.opener_size.Reads as reads
-use Rattle.quote_tags.proofs.tag.opener_size.Lts as lts
-use Rattle.quote_tags.proofs.tag.up_to_bracket.Reads as up-to-bracket-reads
-use Rattle.quote_tags.proofs.tag.opens_quote.Reads as opens-quote-reads
 
 opens-quote-requires : tie.Need-opens-quote-requires
 opens-quote-requires c κs = search needs

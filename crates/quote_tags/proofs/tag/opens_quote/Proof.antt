@@ -1,18 +1,10 @@
 use borrow.Author.Needs.{needs}
-use native.Mathlib.Omega.{arith}
-use mathlib.Core.Path.{_≡_, refl, sym, ap, _∙_}
-use Prim.Native.Nat.{ℕ, suc, _+_, _-_, _≤_, _<_}
-use mathlib.Core.List.{List, [], _∷_, _++_}
-use lib.ListN.{length, getD}
+use mathlib.Core.Path.{refl, sym, _∙_}
+use Prim.Native.Nat.{_-_}
 use lib.Seq.{getD-drop}
 use Rattle.quote_tags.proofs.Plain.{openers-not, openers-by}
 use Rattle.quote_tags.proofs.tag.opens_quote.Statement.{statement}
 use Rattle.quote_tags.proofs.tag.opens_quote.Tie as tie
-use Rattle.quote_tags.proofs.tag.opens_quote.Reads as reads
-use Rattle.quote_tags.proofs.tag.opens_quote.Lts as lts
-use Rattle.text.proofs.scan.begins_at.Reads as begins-at-reads
-use Rattle.text.proofs.scan.byte_at.Reads as byte-at-reads
-use Rattle.text.proofs.scan.small_of.Reads as small-of-reads
 
 add-byte-at : tie.Need-add-byte-at
 add-byte-at c = search needs

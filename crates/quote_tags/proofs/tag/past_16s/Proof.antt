@@ -1,16 +1,10 @@
 use borrow.Author.Needs.{needs}
-use native.Mathlib.Omega.{arith}
-use mathlib.Core.Path.{_≡_, refl, sym, ap, _∙_}
-use Prim.Native.Nat.{ℕ, suc, _+_, _-_, _≤_, _<_}
-use mathlib.Core.List.{List, [], _∷_, _++_}
+use Prim.Native.Nat.{_+_, _-_, _≤_}
 use lib.ListN.{length, getD}
 use Rattle.quote_tags.specs.Tags.{NoQ}
 use Rattle.quote_tags.proofs.Places.{Between, between-none, between-then}
 use Rattle.quote_tags.proofs.tag.past_16s.Statement.{statement}
 use Rattle.quote_tags.proofs.tag.past_16s.Tie as tie
-use Rattle.quote_tags.proofs.tag.past_16s.Reads as reads
-use Rattle.quote_tags.proofs.tag.past_16s.Lts as lts
-use Rattle.quote_tags.proofs.tag.q_in_16.Reads as q-in-16-reads
 
 abbrev Inv-loop : tie.InvT-loop
 Inv-loop s at i₀ i = ((at ≤ i) × (i ≤ length s)) × Between (λ j. NoQ (getD s j 0)) at i

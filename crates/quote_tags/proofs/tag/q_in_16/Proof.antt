@@ -1,16 +1,13 @@
 use borrow.Author.Needs.{needs}
 use native.Mathlib.Omega.{arith}
-use mathlib.Core.Path.{_≡_, refl, sym, ap, _∙_}
-use Prim.Native.Nat.{ℕ, suc, _+_, _-_, _≤_, _<_}
-use mathlib.Core.List.{List, [], _∷_, _++_}
-use lib.ListN.{length, getD}
+use mathlib.Core.Path.{_≡_}
+use Prim.Native.Nat.{_+_, _-_, _≤_}
+use lib.ListN.{getD}
 use mathlib.Core.Bool.{false}
 use Rattle.quote_tags.specs.Tags.{NoQ}
 use Rattle.quote_tags.proofs.Places.{Between, between-turn}
 use Rattle.quote_tags.proofs.tag.q_in_16.Statement.{statement}
 use Rattle.quote_tags.proofs.tag.q_in_16.Tie as tie
-use Rattle.quote_tags.proofs.tag.q_in_16.Reads as reads
-use Rattle.quote_tags.proofs.tag.q_in_16.Lts as lts
 
 abbrev Inv-loop : tie.InvT-loop
 Inv-loop s i stands₀ k₀ stands k = (k ≤ 16) × (stands ≡ false → Between (λ j. NoQ (getD s j 0)) i (i + k))

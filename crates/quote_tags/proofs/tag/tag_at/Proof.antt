@@ -1,20 +1,10 @@
 use borrow.Author.Needs.{needs}
-use native.Mathlib.Omega.{arith}
-use mathlib.Core.Path.{_≡_, refl, sym, ap, _∙_}
-use Prim.Native.Nat.{ℕ, suc, _+_, _-_, _≤_, _<_}
-use mathlib.Core.List.{List, [], _∷_, _++_}
-use lib.ListN.{length, getD}
+use mathlib.Core.Path.{sym, _∙_}
+use Prim.Native.Nat.{_-_}
 use Rattle.quote_tags.specs.Tags.{openerSize, closerSize}
 use Rattle.quote_tags.proofs.Tagging.{tag-is, tag-not, any-here, any-later, any-none}
 use Rattle.quote_tags.proofs.tag.tag_at.Statement.{statement}
 use Rattle.quote_tags.proofs.tag.tag_at.Tie as tie
-use Rattle.quote_tags.proofs.tag.tag_at.Reads as reads
-use Rattle.quote_tags.proofs.tag.tag_at.Lts as lts
-use Rattle.quote_tags.proofs.tag.bracket_from.Reads as bracket-from-reads
-use Rattle.quote_tags.proofs.tag.closer_size.Reads as closer-size-reads
-use Rattle.quote_tags.proofs.tag.opens_quote.Reads as opens-quote-reads
-use Rattle.quote_tags.proofs.tag.up_to_bracket.Reads as up-to-bracket-reads
-use Rattle.text.proofs.scan.begins_at.Reads as begins-at-reads
 
 opens-quote-requires : tie.Need-opens-quote-requires
 opens-quote-requires c κs = search needs

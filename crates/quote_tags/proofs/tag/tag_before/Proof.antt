@@ -1,19 +1,14 @@
 use borrow.Author.Needs.{needs}
 use native.Mathlib.Omega.{arith}
-use mathlib.Core.Path.{_≡_, refl, sym, ap, _∙_}
-use Prim.Native.Nat.{ℕ, suc, _+_, _-_, _≤_, _<_}
-use mathlib.Core.List.{List, [], _∷_, _++_}
-use lib.ListN.{length, getD, drop}
+use mathlib.Core.Path.{sym}
+use Prim.Native.Nat.{_-_, _≤_}
+use lib.ListN.{drop}
 use lib.Seq.{length-take-le}
 use Rattle.quote_tags.specs.Tags.{NoTag}
 use Rattle.quote_tags.proofs.Places.{Between, between-none, between-one}
 use Rattle.quote_tags.proofs.Plain.{run-to-bracket}
 use Rattle.quote_tags.proofs.tag.tag_before.Statement.{statement}
 use Rattle.quote_tags.proofs.tag.tag_before.Tie as tie
-use Rattle.quote_tags.proofs.tag.tag_before.Reads as reads
-use Rattle.quote_tags.proofs.tag.tag_before.Lts as lts
-use Rattle.quote_tags.proofs.tag.may_begin.Reads as may-begin-reads
-use Rattle.text.proofs.scan.next_byte.Reads as next-byte-reads
 
 abbrev Inv-loop : tie.InvT-loop
 Inv-loop s at e i₀ i = ((at ≤ i) × (i ≤ e)) × Between (λ j. NoTag (drop j s)) at i

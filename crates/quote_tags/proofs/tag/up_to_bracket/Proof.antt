@@ -1,14 +1,9 @@
 use borrow.Author.Needs.{needs}
 use native.Mathlib.Omega.{arith}
-use mathlib.Core.Path.{_≡_, refl, sym, ap, _∙_}
-use Prim.Native.Nat.{ℕ, suc, _+_, _-_, _≤_, _<_}
-use mathlib.Core.List.{List, [], _∷_, _++_}
-use lib.ListN.{length, getD}
+use Prim.Native.Nat.{_-_}
 use Rattle.quote_tags.proofs.Tagging.{up-to-here, up-to-none}
 use Rattle.quote_tags.proofs.tag.up_to_bracket.Statement.{statement}
 use Rattle.quote_tags.proofs.tag.up_to_bracket.Tie as tie
-use Rattle.quote_tags.proofs.tag.up_to_bracket.Reads as reads
-use Rattle.quote_tags.proofs.tag.up_to_bracket.Lts as lts
 
 sub-result : tie.Need-sub-result
 sub-result c = search needs

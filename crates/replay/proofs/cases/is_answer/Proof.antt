@@ -1,16 +1,12 @@
 use borrow.Author.Needs.{needs}
 use native.Mathlib.Omega.{arith}
-use mathlib.Core.Path.{_≡_, refl, sym, ap, _∙_}
-use Prim.Native.Nat.{ℕ, suc, _+_, _-_, _≤_, _<_}
-use mathlib.Core.List.{List, [], _∷_, _++_}
-use lib.ListN.{length, getD}
+use mathlib.Core.Path.{sym}
+use Prim.Native.Nat.{_-_}
+use lib.ListN.{length}
 use lib.Seq.{length-take-le}
 use Rattle.replay.proofs.Comparing.{same-none, other-last, same-last}
 use Rattle.replay.proofs.cases.is_answer.Statement.{statement}
 use Rattle.replay.proofs.cases.is_answer.Tie as tie
-use Rattle.replay.proofs.cases.is_answer.Reads as reads
-use Rattle.replay.proofs.cases.is_answer.Lts as lts
-use Rattle.replay.proofs.cases.is_same.Reads as is-same-reads
 
 returns : tie.Need-returns
 returns c = same-none _ (c .before .before .before .args .listing .now) 10 (c .if1 .taken)

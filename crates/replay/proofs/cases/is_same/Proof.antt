@@ -1,14 +1,12 @@
 use borrow.Author.Needs.{needs}
 use native.Mathlib.Omega.{arith}
 use mathlib.Core.Path.{_≡_, refl, sym, _∙_}
-use Prim.Native.Nat.{_+_, _-_, _≤_, _<_}
+use Prim.Native.Nat.{_-_, _≤_}
 use lib.ListN.{length, drop}
 use Rattle.quote_lines.specs.Lines.{same}
 use Rattle.replay.proofs.Comparing.{same-end, same-long, same-short, same-other, same-more}
 use Rattle.replay.proofs.cases.is_same.Statement.{statement}
 use Rattle.replay.proofs.cases.is_same.Tie as tie
-use Rattle.replay.proofs.cases.is_same.Reads as reads
-use Rattle.replay.proofs.cases.is_same.Lts as lts
 
 abbrev Inv-loop : tie.InvT-loop
 Inv-loop a b i₀ i = (i ≤ length a) × (same a b ≡ same (drop i a) (drop i b))

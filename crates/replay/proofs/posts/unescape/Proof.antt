@@ -1,16 +1,11 @@
 use borrow.Author.Needs.{needs}
 use native.Mathlib.Omega.{arith}
-use mathlib.Core.Path.{_≡_, refl, sym, ap, _∙_}
-use Prim.Native.Nat.{ℕ, suc, _+_, _-_, _≤_, _<_}
-use mathlib.Core.List.{List, [], _∷_, _++_}
+use mathlib.Core.Path.{_≡_, refl, sym}
+use Prim.Native.Nat.{_-_, _≤_}
 use lib.ListN.{length, length-set}
 use lib.Seq.{length-take-le}
 use Rattle.replay.proofs.posts.unescape.Statement.{statement}
 use Rattle.replay.proofs.posts.unescape.Tie as tie
-use Rattle.replay.proofs.posts.unescape.Reads as reads
-use Rattle.replay.proofs.posts.unescape.Lts as lts
-use Rattle.replay.proofs.posts.byte_of.Reads as byte-of-reads
-use Rattle.replay.proofs.posts.width.Reads as width-reads
 
 abbrev Inv-loop : tie.InvT-loop
 Inv-loop s out₀ i₀ k₀ out i k = (i ≤ length s) × (k ≤ length out) × (length out ≡ length out₀)

@@ -10,11 +10,6 @@ use Rattle.text.proofs.Writing.{part-none}
 use Rattle.text.proofs.Areas.{appendsIn-none, appendsIn-set, appendsIn-pasted, part-over, copy-in-turn}
 use Rattle.text.proofs.area.copy_in.Statement.{statement}
 use Rattle.text.proofs.area.copy_in.Tie as tie
-use Rattle.text.proofs.area.copy_in.Reads as reads
-use Rattle.text.proofs.area.copy_in.Lts as lts
-use Rattle.text.proofs.area.fits_blocks.Reads as fits-blocks-reads
-use Rattle.text.proofs.area.room_from.Reads as room-from-reads
-use Rattle.text.proofs.block.blocks.Reads as blocks-reads
 
 abbrev Inv-loop : tie.InvT-loop
 Inv-loop src from buf₀ nums₀ end first last n room i₀ to₀ buf nums i to =

@@ -10,11 +10,6 @@ use Rattle.text.proofs.Writing.{part-none}
 use Rattle.text.proofs.Areas.{appendsIn-none, appendsIn-set, appendsIn-pasted, part-over, within-turn}
 use Rattle.text.proofs.area.copy_within.Statement.{statement}
 use Rattle.text.proofs.area.copy_within.Tie as tie
-use Rattle.text.proofs.area.copy_within.Reads as reads
-use Rattle.text.proofs.area.copy_within.Lts as lts
-use Rattle.text.proofs.area.fits_blocks.Reads as fits-blocks-reads
-use Rattle.text.proofs.area.room_from.Reads as room-from-reads
-use Rattle.text.proofs.block.within.Reads as within-reads
 
 abbrev Inv-loop : tie.InvT-loop
 Inv-loop buf₀ nums₀ end first last n room behind i₀ to₀ buf nums i to =

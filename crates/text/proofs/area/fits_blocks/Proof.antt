@@ -3,9 +3,6 @@ use native.Mathlib.Omega.{arith}
 use borrow.Author.Tests.{leb-true}
 use Rattle.text.proofs.area.fits_blocks.Statement.{statement}
 use Rattle.text.proofs.area.fits_blocks.Tie as tie
-use Rattle.text.proofs.area.fits_blocks.Reads as reads
-use Rattle.text.proofs.area.fits_blocks.Lts as lts
-use Rattle.text.proofs.shorter.Reads as shorter-reads
 
 -- src/area.rt:36:19
 shorter-requires : tie.Need-shorter-requires

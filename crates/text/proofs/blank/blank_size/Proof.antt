@@ -1,16 +1,8 @@
 use borrow.Author.Needs.{needs}
-use native.Mathlib.Omega.{arith}
-use mathlib.Core.Path.{_≡_, refl, sym, ap, _∙_}
-use Prim.Native.Nat.{ℕ, suc, _+_, _-_, _≤_, _<_}
-use mathlib.Core.List.{List, [], _∷_, _++_}
-use lib.ListN.{length, getD}
+use Prim.Native.Nat.{_-_}
 use Rattle.text.proofs.Characters.{blank-at}
 use Rattle.text.proofs.blank.blank_size.Statement.{statement}
 use Rattle.text.proofs.blank.blank_size.Tie as tie
-use Rattle.text.proofs.blank.blank_size.Reads as reads
-use Rattle.text.proofs.blank.blank_size.Lts as lts
-use Rattle.text.proofs.blank.blank_width.Reads as blank-width-reads
-use Rattle.text.proofs.scan.byte_at.Reads as byte-at-reads
 
 shared-slice-read-blank-width : tie.Need-shared-slice-read-blank-width
 shared-slice-read-blank-width c = search needs

@@ -1,18 +1,10 @@
 use borrow.Author.Needs.{needs}
-use native.Mathlib.Omega.{arith}
-use mathlib.Core.Path.{_≡_, refl, sym, ap, _∙_}
-use Prim.Native.Nat.{ℕ, suc, _+_, _-_, _≤_, _<_}
-use mathlib.Core.List.{List, [], _∷_, _++_}
-use lib.ListN.{length, getD}
+use mathlib.Core.Path.{sym}
+use Prim.Native.Nat.{_-_}
 use Rattle.text.specs.Blanks.{blankWidth}
 use Rattle.text.proofs.Decide.{decide}
 use Rattle.text.proofs.blank.blank_width.Statement.{statement}
 use Rattle.text.proofs.blank.blank_width.Tie as tie
-use Rattle.text.proofs.blank.blank_width.Reads as reads
-use Rattle.text.proofs.blank.blank_width.Lts as lts
-use Rattle.text.proofs.blank.is_blank1.Reads as is-blank1-reads
-use Rattle.text.proofs.blank.is_blank2.Reads as is-blank2-reads
-use Rattle.text.proofs.blank.is_blank3.Reads as is-blank3-reads
 
 -- src/blank.rt:71:8
 is-blank1-requires : tie.Need-is-blank1-requires

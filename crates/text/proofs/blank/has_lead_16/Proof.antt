@@ -1,17 +1,14 @@
 use borrow.Author.Needs.{needs}
 use native.Mathlib.Omega.{arith}
-use mathlib.Core.Path.{_≡_, refl, sym, ap, _∙_}
-use Prim.Native.Nat.{ℕ, suc, _+_, _-_, _*_, _≤_, _<_}
-use mathlib.Core.List.{List, [], _∷_, _++_}
-use lib.ListN.{length, getD, drop}
+use mathlib.Core.Path.{_≡_, ap, _∙_}
+use Prim.Native.Nat.{_-_, _≤_}
+use lib.ListN.{drop}
 use lib.Dec.{ltb}
 use Rattle.text.specs.Ascii.{toFirst}
 use Rattle.text.proofs.Bytes.{stands-none, stands-turn}
 use Rattle.text.proofs.Characters.{lead}
 use Rattle.text.proofs.blank.has_lead_16.Statement.{statement}
 use Rattle.text.proofs.blank.has_lead_16.Tie as tie
-use Rattle.text.proofs.blank.has_lead_16.Reads as reads
-use Rattle.text.proofs.blank.has_lead_16.Lts as lts
 
 abbrev Inv-loop : tie.InvT-loop
 Inv-loop s i has₀ k₀ has k = (k ≤ 16) × (has ≡ ltb (toFirst lead (drop i s)) k)

@@ -1,18 +1,11 @@
 use borrow.Author.Needs.{needs}
-use native.Mathlib.Omega.{arith}
-use mathlib.Core.Path.{_≡_, refl, sym, ap, _∙_}
-use Prim.Native.Nat.{ℕ, suc, _+_, _-_, _≤_, _<_}
-use mathlib.Core.List.{List, [], _∷_, _++_}
+use mathlib.Core.Path.{_≡_, refl, sym, _∙_}
+use Prim.Native.Nat.{_-_, _≤_}
 use lib.ListN.{length}
 use Rattle.text.specs.Cells.{cellsOf}
 use Rattle.text.proofs.Numbering.{numbered, numbered-start, numbered-end}
 use Rattle.text.proofs.blank.number.Statement.{statement}
 use Rattle.text.proofs.blank.number.Tie as tie
-use Rattle.text.proofs.blank.number.Reads as reads
-use Rattle.text.proofs.blank.number.Lts as lts
-use Rattle.text.proofs.blank.number_part.Reads as number-part-reads
-use Rattle.text.proofs.blank.number_plain.Reads as number-plain-reads
-use Rattle.text.proofs.blank.past_plain.Reads as past-plain-reads
 
 abbrev Inv-loop : tie.InvT-loop
 Inv-loop s nums₀ i₀ nums i = (i ≤ length s) × (length nums ≡ length nums₀) × (cellsOf s ≡ numbered s i 0 nums)

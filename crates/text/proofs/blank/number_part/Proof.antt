@@ -1,15 +1,11 @@
 use borrow.Author.Needs.{needs}
 use native.Mathlib.Omega.{arith}
-use mathlib.Core.Path.{_≡_, refl, sym, ap, _∙_}
-use Prim.Native.Nat.{ℕ, suc, _+_, _-_, _≤_, _<_}
-use mathlib.Core.List.{List, [], _∷_, _++_}
-use lib.ListN.{length, getD, length-set}
+use mathlib.Core.Path.{_≡_, refl, _∙_}
+use Prim.Native.Nat.{_-_, _≤_}
+use lib.ListN.{length, length-set}
 use Rattle.text.proofs.Numbering.{numbered, placed-small, numbered-turn, numbered-cut}
 use Rattle.text.proofs.blank.number_part.Statement.{statement}
 use Rattle.text.proofs.blank.number_part.Tie as tie
-use Rattle.text.proofs.blank.number_part.Reads as reads
-use Rattle.text.proofs.blank.number_part.Lts as lts
-use Rattle.text.proofs.blank.place_at.Reads as place-at-reads
 
 abbrev Inv-loop : tie.InvT-loop
 Inv-loop s i nums₀ left₀ j₀ nums left j = (i ≤ j) × (j ≤ length s) × (length nums ≡ length nums₀) × (numbered s i 0 nums₀ ≡ numbered s j left nums)

@@ -1,19 +1,14 @@
 use borrow.Author.Needs.{needs}
 use native.Mathlib.Omega.{arith}
-use mathlib.Core.Path.{_≡_, refl, sym, ap, _∙_}
-use Prim.Native.Nat.{ℕ, suc, _+_, _-_, _≤_, _<_}
-use mathlib.Core.List.{List, [], _∷_, _++_}
-use lib.ListN.{length, getD}
+use mathlib.Core.Path.{_≡_, refl, _∙_}
+use Prim.Native.Nat.{_-_, _≤_}
+use lib.ListN.{length}
 use native.Mathlib.Nat.{le-antisymm}
 use Rattle.text.proofs.Bytes.{first-later}
 use Rattle.text.proofs.Characters.{lead}
 use Rattle.text.proofs.Numbering.{numbered}
 use Rattle.text.proofs.blank.number_plain.Statement.{statement}
 use Rattle.text.proofs.blank.number_plain.Tie as tie
-use Rattle.text.proofs.blank.number_plain.Reads as reads
-use Rattle.text.proofs.blank.number_plain.Lts as lts
-use Rattle.text.proofs.blank.number_run.Reads as number-run-reads
-use Rattle.text.proofs.shorter.Reads as shorter-reads
 
 abbrev Inv-loop : tie.InvT-loop
 Inv-loop s i e nums₀ j₀ nums j = (i ≤ j) × (j ≤ e) × (length nums ≡ length nums₀) × (numbered s i 0 nums₀ ≡ numbered s j 0 nums)

@@ -1,9 +1,9 @@
 use borrow.Author.Needs.{needs}
 use native.Mathlib.Omega.{arith}
 use mathlib.Core.Path.{_≡_, refl, sym, ap, _∙_}
-use Prim.Native.Nat.{ℕ, suc, _+_, _-_, _≤_, _<_}
-use mathlib.Core.List.{List, [], _∷_, _++_}
-use lib.ListN.{length, getD}
+use Prim.Native.Nat.{ℕ, _+_, _-_, _≤_}
+use mathlib.Core.List.{List}
+use lib.ListN.{length}
 use lib.ListN.{set, length-set}
 use Prim.Native.Nat.{_*_}
 use native.Mathlib.Nat.{le-antisymm, add-zero}
@@ -12,10 +12,6 @@ use Rattle.text.proofs.Characters.{lead}
 use Rattle.text.proofs.Numbering.{numbered, plain-small, plain-turn}
 use Rattle.text.proofs.blank.number_run.Statement.{statement}
 use Rattle.text.proofs.blank.number_run.Tie as tie
-use Rattle.text.proofs.blank.number_run.Reads as reads
-use Rattle.text.proofs.blank.number_run.Lts as lts
-use Rattle.text.proofs.blank.set_flags.Reads as set-flags-reads
-use Rattle.text.proofs.blank.wide.Reads as wide-reads
 
 abbrev Inv-loop : tie.InvT-loop
 Inv-loop s i n nums₀ flags x₀ k₀ nums x k = (k ≤ n) × (x ≡ 2 * (i + k + 1)) × (length nums ≡ length nums₀) × (numbered s i 0 nums₀ ≡ numbered s (i + k) 0 nums)

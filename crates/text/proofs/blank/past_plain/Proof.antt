@@ -1,17 +1,13 @@
 use borrow.Author.Needs.{needs}
 use native.Mathlib.Omega.{arith}
-use mathlib.Core.Path.{_≡_, refl, sym, ap, _∙_}
-use Prim.Native.Nat.{ℕ, suc, _+_, _-_, _≤_, _<_}
-use mathlib.Core.List.{List, [], _∷_, _++_}
+use mathlib.Core.Path.{sym, _∙_}
+use Prim.Native.Nat.{_-_, _≤_}
 use lib.ListN.{length}
 use borrow.Author.Tests.{ltb-false}
 use Rattle.text.proofs.Bytes.{Looks, look, look-past}
 use Rattle.text.proofs.Characters.{lead}
 use Rattle.text.proofs.blank.past_plain.Statement.{statement}
 use Rattle.text.proofs.blank.past_plain.Tie as tie
-use Rattle.text.proofs.blank.past_plain.Reads as reads
-use Rattle.text.proofs.blank.past_plain.Lts as lts
-use Rattle.text.proofs.blank.has_lead_16.Reads as has-lead-16-reads
 
 abbrev Inv-loop : tie.InvT-loop
 Inv-loop s at i₀ i = (at ≤ i) × Looks lead s at i

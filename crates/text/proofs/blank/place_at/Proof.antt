@@ -1,21 +1,13 @@
 use borrow.Author.Needs.{needs}
 use native.Mathlib.Omega.{arith}
-use mathlib.Core.Path.{_≡_, refl, sym, ap, _∙_}
-use Prim.Native.Nat.{ℕ, suc, _+_, _-_, _≤_, _<_}
-use mathlib.Core.List.{List, [], _∷_, _++_}
-use lib.ListN.{length, getD}
-use lib.ListN.{drop}
+use mathlib.Core.Path.{sym, _∙_}
+use Prim.Native.Nat.{_-_}
 use borrow.Author.Tests.{lt-ltb, le-ltb}
 use Rattle.text.proofs.Decide.{decide}
 use Rattle.text.specs.Cells.{blankAt, moreAfter}
 use Rattle.text.proofs.Characters.{ascii-place}
 use Rattle.text.proofs.blank.place_at.Statement.{statement}
 use Rattle.text.proofs.blank.place_at.Tie as tie
-use Rattle.text.proofs.blank.place_at.Reads as reads
-use Rattle.text.proofs.blank.place_at.Lts as lts
-use Rattle.text.proofs.blank.ascii_blank.Reads as ascii-blank-reads
-use Rattle.text.proofs.blank.blank_size.Reads as blank-size-reads
-use Rattle.text.proofs.blank.wide.Reads as wide-reads
 
 sub-t8 : tie.Need-sub-t8
 sub-t8 c = search needs

@@ -1,18 +1,14 @@
 use borrow.Author.Needs.{needs}
 use native.Mathlib.Omega.{arith}
-use mathlib.Core.Path.{_≡_, refl, sym, ap, _∙_}
-use Prim.Native.Nat.{ℕ, suc, _+_, _-_, _≤_, _<_}
-use mathlib.Core.List.{List, [], _∷_, _++_}
+use mathlib.Core.Path.{_≡_, refl}
+use Prim.Native.Nat.{ℕ, _+_, _-_, _≤_, _<_}
+use mathlib.Core.List.{List}
 use lib.ListN.{length, getD}
-use lib.ListN.{set}
 use mathlib.Core.Bool.{cond}
 use Rattle.text.specs.Blanks.{blank1}
 use Rattle.text.proofs.Numbering.{flags-turn}
 use Rattle.text.proofs.blank.set_flags.Statement.{statement}
 use Rattle.text.proofs.blank.set_flags.Tie as tie
-use Rattle.text.proofs.blank.set_flags.Reads as reads
-use Rattle.text.proofs.blank.set_flags.Lts as lts
-use Rattle.text.proofs.blank.ascii_blank.Reads as ascii-blank-reads
 
 abbrev Inv-loop : tie.InvT-loop
 Inv-loop s i n flags₀ k₀ flags k = (k ≤ n) × (length flags ≡ length flags₀) × ((j : ℕ) → j < k → getD flags j 0 ≡ cond (blank1 (getD s (i + j) 0)) 1 0)

@@ -1,18 +1,14 @@
 use borrow.Author.Needs.{needs}
 use native.Mathlib.Omega.{arith}
-use mathlib.Core.Path.{_≡_, refl, sym, ap, _∙_}
-use Prim.Native.Nat.{ℕ, suc, _+_, _-_, _≤_, _<_}
-use mathlib.Core.List.{List, [], _∷_, _++_}
-use lib.ListN.{length, getD}
+use mathlib.Core.Path.{_≡_, sym, _∙_}
+use Prim.Native.Nat.{_+_, _-_, _≤_}
+use lib.ListN.{length}
 use lib.ListN.{drop}
 use native.Mathlib.Nat.{add-zero, add-assoc}
 use Rattle.text.proofs.Bytes.{begins-end, begins-short, begins-other, begins-more}
 use Rattle.text.specs.Ascii.{begins}
 use Rattle.text.proofs.scan.begins_at.Statement.{statement}
 use Rattle.text.proofs.scan.begins_at.Tie as tie
-use Rattle.text.proofs.scan.begins_at.Reads as reads
-use Rattle.text.proofs.scan.begins_at.Lts as lts
-use Rattle.text.proofs.scan.small_of.Reads as small-of-reads
 
 abbrev Inv-loop : tie.InvT-loop
 Inv-loop s word i k₀ k = (k ≤ length word) × (i + k ≤ length s) × (begins word (drop i s) ≡ begins (drop k word) (drop (i + k) s))

@@ -1,14 +1,11 @@
 use borrow.Author.Needs.{needs}
 use native.Mathlib.Omega.{arith}
-use mathlib.Core.Path.{_≡_, refl, sym, ap, _∙_}
-use Prim.Native.Nat.{ℕ, suc, _+_, _-_, _≤_, _<_}
-use mathlib.Core.List.{List, [], _∷_, _++_}
-use lib.ListN.{length, getD}
+use mathlib.Core.Path.{sym}
+use Prim.Native.Nat.{_-_}
+use mathlib.Core.List.{List}
 use lib.ListN.{List·getD-eq-default}
 use Rattle.text.proofs.scan.byte_at.Statement.{statement}
 use Rattle.text.proofs.scan.byte_at.Tie as tie
-use Rattle.text.proofs.scan.byte_at.Reads as reads
-use Rattle.text.proofs.scan.byte_at.Lts as lts
 
 shared-slice-read-result : tie.Need-shared-slice-read-result
 shared-slice-read-result c = search needs

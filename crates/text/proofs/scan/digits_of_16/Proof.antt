@@ -1,9 +1,7 @@
 use borrow.Author.Needs.{needs}
-use native.Mathlib.Omega.{arith}
-use mathlib.Core.Path.{_≡_, refl, sym, ap, _∙_}
-use Prim.Native.Nat.{ℕ, suc, _+_, _-_, _≤_, _<_}
-use mathlib.Core.List.{List, [], _∷_, _++_}
-use lib.ListN.{length, getD}
+use mathlib.Core.Path.{sym, ap, _∙_}
+use Prim.Native.Nat.{ℕ, _+_, _-_}
+use mathlib.Core.List.{List}
 use lib.ListN.{drop}
 use lib.Dec.{eqb}
 use lib.Seq.{drop-drop}
@@ -12,9 +10,6 @@ use Rattle.text.specs.Ascii.{binary}
 use Rattle.text.proofs.Digits.{binary-halves}
 use Rattle.text.proofs.scan.digits_of_16.Statement.{statement}
 use Rattle.text.proofs.scan.digits_of_16.Tie as tie
-use Rattle.text.proofs.scan.digits_of_16.Reads as reads
-use Rattle.text.proofs.scan.digits_of_16.Lts as lts
-use Rattle.text.proofs.scan.digits_of_8.Reads as digits-of-8-reads
 
 -- src/scan.rt:101:5
 digits-of-8-requires : tie.Need-digits-of-8-requires

@@ -1,18 +1,14 @@
 use borrow.Author.Needs.{needs}
 use native.Mathlib.Omega.{arith}
-use mathlib.Core.Path.{_≡_, refl, sym, ap, _∙_}
-use Prim.Native.Nat.{ℕ, suc, _+_, _-_, _≤_, _<_}
-use mathlib.Core.List.{List, [], _∷_, _++_}
-use lib.ListN.{length, getD}
+use mathlib.Core.Path.{_≡_, ap, _∙_}
+use Prim.Native.Nat.{ℕ, _+_, _-_, _≤_}
+use mathlib.Core.List.{List}
 use lib.ListN.{drop}
 use lib.Dec.{eqb}
 use Rattle.text.specs.Ascii.{binary}
 use Rattle.text.proofs.Digits.{binary-start, binary-byte, binary-turn}
 use Rattle.text.proofs.scan.digits_of_8.Statement.{statement}
 use Rattle.text.proofs.scan.digits_of_8.Tie as tie
-use Rattle.text.proofs.scan.digits_of_8.Reads as reads
-use Rattle.text.proofs.scan.digits_of_8.Lts as lts
-use Rattle.text.proofs.scan.one_if.Reads as one-if-reads
 
 abbrev Inv-loop : tie.InvT-loop
 Inv-loop s i b digits₀ k₀ digits k = (k ≤ 8) × (digits ≡ binary (λ x. eqb x b) (8 - k) (drop (i + k) s))

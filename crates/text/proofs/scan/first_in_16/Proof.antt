@@ -1,18 +1,14 @@
 use borrow.Author.Needs.{needs}
 use native.Mathlib.Omega.{arith}
-use mathlib.Core.Path.{_≡_, refl, sym, ap, _∙_}
-use Prim.Native.Nat.{ℕ, suc, _+_, _-_, _≤_, _<_}
-use mathlib.Core.List.{List, [], _∷_, _++_}
-use lib.ListN.{length, getD}
+use mathlib.Core.Path.{ap, _∙_}
+use Prim.Native.Nat.{ℕ, _-_, _≤_}
+use mathlib.Core.List.{List}
 use lib.Count.{trailingZeros, trailing-le}
 use lib.ListN.{drop, length-drop}
 use lib.Dec.{eqb}
 use Rattle.text.proofs.Digits.{binary-zeros}
 use Rattle.text.proofs.scan.first_in_16.Statement.{statement}
 use Rattle.text.proofs.scan.first_in_16.Tie as tie
-use Rattle.text.proofs.scan.first_in_16.Reads as reads
-use Rattle.text.proofs.scan.first_in_16.Lts as lts
-use Rattle.text.proofs.scan.digits_of_16.Reads as digits-of-16-reads
 
 digits-of-16-requires : tie.Need-digits-of-16-requires
 digits-of-16-requires c κs = search needs

@@ -2,9 +2,6 @@ use borrow.Author.Needs.{needs}
 use Rattle.text.specs.Ascii.{toBracket}
 use Rattle.text.proofs.scan.next_bracket.Statement.{statement}
 use Rattle.text.proofs.scan.next_bracket.Tie as tie
-use Rattle.text.proofs.scan.next_bracket.Reads as reads
-use Rattle.text.proofs.scan.next_bracket.Lts as lts
-use Rattle.text.proofs.scan.next_byte.Reads as next-byte-reads
 
 next-byte-requires : tie.Need-next-byte-requires
 next-byte-requires c κs = search needs

@@ -1,21 +1,15 @@
 use borrow.Author.Needs.{needs}
 use native.Mathlib.Omega.{arith}
-use mathlib.Core.Path.{_≡_, refl, sym, ap, _∙_}
-use Prim.Native.Nat.{ℕ, suc, _+_, _-_, _≤_, _<_}
-use mathlib.Core.List.{List, [], _∷_, _++_}
-use lib.ListN.{length, getD}
+use mathlib.Core.Path.{sym, ap, _∙_}
+use Prim.Native.Nat.{ℕ, _+_, _-_, _≤_, _<_}
+use lib.ListN.{length}
 use lib.ListN.{drop}
-use lib.Dec.{eqb, ltb}
+use lib.Dec.{eqb}
 use Rattle.text.specs.Ascii.{toFirst}
 use borrow.Author.Tests.{eq-eqb, ne-eqb, ltb-true, ltb-false}
 use Rattle.text.proofs.Bytes.{Looks, look, look-here, look-on, look-past, look-end}
 use Rattle.text.proofs.scan.next_byte.Statement.{statement}
 use Rattle.text.proofs.scan.next_byte.Tie as tie
-use Rattle.text.proofs.scan.next_byte.Reads as reads
-use Rattle.text.proofs.scan.next_byte.Lts as lts
-use Rattle.text.proofs.scan.blocks_end.Reads as blocks-end-reads
-use Rattle.text.proofs.scan.first_in_16.Reads as first-in-16-reads
-use Rattle.text.proofs.scan.stands_in_16.Reads as stands-in-16-reads
 
 abbrev Inv-loop : tie.InvT-loop
 Inv-loop s b i₀ e i = Looks (λ x. eqb x b) s i₀ i × (i < e → e + 15 ≤ length s)

@@ -1,17 +1,12 @@
 use borrow.Author.Needs.{needs}
 use native.Mathlib.Omega.{arith}
-use mathlib.Core.Path.{_≡_, refl, sym, ap, _∙_}
-use Prim.Native.Nat.{ℕ, suc, _+_, _-_, _≤_, _<_}
-use mathlib.Core.List.{List, [], _∷_, _++_}
-use lib.ListN.{length, getD}
+use mathlib.Core.Path.{sym, _∙_}
+use Prim.Native.Nat.{_-_}
 use Rattle.text.proofs.Bytes.{inside-true}
 use Rattle.text.specs.Ascii.{small}
 use Rattle.text.proofs.Decide.{decide}
 use Rattle.text.proofs.scan.small_of.Statement.{statement}
 use Rattle.text.proofs.scan.small_of.Tie as tie
-use Rattle.text.proofs.scan.small_of.Reads as reads
-use Rattle.text.proofs.scan.small_of.Lts as lts
-use Rattle.text.proofs.scan.is_inside.Reads as is-inside-reads
 
 is-inside-requires : tie.Need-is-inside-requires
 is-inside-requires c κs = search needs

@@ -1,16 +1,13 @@
 use borrow.Author.Needs.{needs}
 use native.Mathlib.Omega.{arith}
-use mathlib.Core.Path.{_≡_, refl, sym, ap, _∙_}
-use Prim.Native.Nat.{ℕ, suc, _+_, _-_, _≤_, _<_}
-use mathlib.Core.List.{List, [], _∷_, _++_}
-use lib.ListN.{length, getD, drop}
+use mathlib.Core.Path.{_≡_, ap, _∙_}
+use Prim.Native.Nat.{_-_, _≤_}
+use lib.ListN.{drop}
 use lib.Dec.{eqb, ltb}
 use Rattle.text.specs.Ascii.{toFirst}
 use Rattle.text.proofs.Bytes.{stands-none, stands-turn}
 use Rattle.text.proofs.scan.stands_in_16.Statement.{statement}
 use Rattle.text.proofs.scan.stands_in_16.Tie as tie
-use Rattle.text.proofs.scan.stands_in_16.Reads as reads
-use Rattle.text.proofs.scan.stands_in_16.Lts as lts
 
 abbrev Inv-loop : tie.InvT-loop
 Inv-loop s i b stands₀ k₀ stands k = (k ≤ 16) × (stands ≡ ltb (toFirst (λ x. eqb x b) (drop i s)) k)

@@ -1,17 +1,14 @@
 use borrow.Author.Needs.{needs}
 use native.Mathlib.Omega.{arith}
-use mathlib.Core.Path.{_≡_, refl, sym, ap, _∙_}
-use Prim.Native.Nat.{ℕ, suc, _+_, _-_, _≤_, _<_}
-use mathlib.Core.List.{List, [], _∷_, _++_}
-use lib.ListN.{length, getD}
+use mathlib.Core.Path.{_≡_, refl, _∙_}
+use Prim.Native.Nat.{_-_, _≤_}
+use lib.ListN.{length}
 use lib.ListN.{take}
-use lib.Seq.{take-length, take-all}
+use lib.Seq.{take-all}
 use native.Mathlib.Nat.{le-antisymm}
 use Rattle.text.proofs.Sources.{source-turn}
 use Rattle.text.proofs.source.set_source.Statement.{statement}
 use Rattle.text.proofs.source.set_source.Tie as tie
-use Rattle.text.proofs.source.set_source.Reads as reads
-use Rattle.text.proofs.source.set_source.Lts as lts
 
 abbrev Inv-loop : tie.InvT-loop
 Inv-loop text work₀ i₀ work i = (i ≤ length text) × (length work ≡ length work₀) × (take i work ≡ take i text)

@@ -1,15 +1,9 @@
-use borrow.Author.Needs.{needs}
-use native.Mathlib.Omega.{arith}
-use mathlib.Core.Path.{_≡_, refl, sym, ap, _∙_}
-use Prim.Native.Nat.{ℕ, suc, _+_, _-_, _≤_, _<_}
-use mathlib.Core.List.{List, [], _∷_, _++_}
-use lib.ListN.{length, getD}
+use mathlib.Core.Path.{sym}
+use Prim.Native.Nat.{_-_}
 use Rattle.text.specs.Lines.{isFeed}
 use Rattle.text.proofs.Decide.{decide}
 use Rattle.text.proofs.trim.is_feed.Statement.{statement}
 use Rattle.text.proofs.trim.is_feed.Tie as tie
-use Rattle.text.proofs.trim.is_feed.Reads as reads
-use Rattle.text.proofs.trim.is_feed.Lts as lts
 
 -- src/trim.rt:62:9
 returns : tie.Need-returns

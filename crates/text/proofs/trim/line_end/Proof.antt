@@ -1,20 +1,13 @@
 use borrow.Author.Needs.{needs}
 use native.Mathlib.Omega.{arith}
-use mathlib.Core.Path.{_≡_, refl, sym, ap, _∙_}
-use Prim.Native.Nat.{ℕ, suc, _+_, _-_, _≤_, _<_}
-use mathlib.Core.List.{List, [], _∷_, _++_}
-use lib.ListN.{length, getD}
+use mathlib.Core.Path.{_≡_, sym, _∙_}
+use Prim.Native.Nat.{_-_, _≤_}
 use lib.Seq.{length-take-le}
-use native.Mathlib.Nat.{le-antisymm}
 use Rattle.text.proofs.Trimming.{onto, lines-none, lines-on, lines-feed, lines-last}
 use Rattle.text.specs.Lines.{lines}
 use Rattle.text.specs.Cells.{cells, part}
 use Rattle.text.proofs.trim.line_end.Statement.{statement}
 use Rattle.text.proofs.trim.line_end.Tie as tie
-use Rattle.text.proofs.trim.line_end.Reads as reads
-use Rattle.text.proofs.trim.line_end.Lts as lts
-use Rattle.text.proofs.scan.next_byte.Reads as next-byte-reads
-use Rattle.text.proofs.trim.is_feed.Reads as is-feed-reads
 
 abbrev Inv-loop : tie.InvT-loop
 Inv-loop src from end i₀ i = (i₀ ≤ i) × (i ≤ end) × (lines (part i₀ end (cells src from)) ≡ onto (part i₀ i (cells src from)) (lines (part i end (cells src from))))

@@ -1,16 +1,12 @@
 use borrow.Author.Needs.{needs}
 use native.Mathlib.Omega.{arith}
-use mathlib.Core.Path.{_≡_, refl, sym, ap, _∙_}
-use Prim.Native.Nat.{ℕ, suc, _+_, _-_, _≤_, _<_}
-use mathlib.Core.List.{List, [], _∷_, _++_}
-use lib.ListN.{length, getD}
+use mathlib.Core.Path.{_≡_, refl, sym, _∙_}
+use Prim.Native.Nat.{_-_, _≤_}
 use Rattle.text.proofs.Trimming.{trimEnd-blank, trimEnd-other, trimEnd-end}
 use Rattle.text.specs.Lines.{trimEnd}
 use Rattle.text.specs.Cells.{cells, part}
 use Rattle.text.proofs.trim.trim_end.Statement.{statement}
 use Rattle.text.proofs.trim.trim_end.Tie as tie
-use Rattle.text.proofs.trim.trim_end.Reads as reads
-use Rattle.text.proofs.trim.trim_end.Lts as lts
 
 abbrev Inv-loop : tie.InvT-loop
 Inv-loop src from start i₀ i = (start ≤ i) × (i ≤ i₀) × (trimEnd (part start i₀ (cells src from)) ≡ trimEnd (part start i (cells src from)))

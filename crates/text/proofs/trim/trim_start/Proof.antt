@@ -1,16 +1,12 @@
 use borrow.Author.Needs.{needs}
 use native.Mathlib.Omega.{arith}
-use mathlib.Core.Path.{_≡_, refl, sym, ap, _∙_}
-use Prim.Native.Nat.{ℕ, suc, _+_, _-_, _≤_, _<_}
-use mathlib.Core.List.{List, [], _∷_, _++_}
-use lib.ListN.{length, getD}
+use mathlib.Core.Path.{_≡_, refl, sym, _∙_}
+use Prim.Native.Nat.{_-_, _≤_}
 use Rattle.text.proofs.Trimming.{trimStart-blank, trimStart-other, trimStart-end}
 use Rattle.text.specs.Lines.{trimStart}
 use Rattle.text.specs.Cells.{cells, part}
 use Rattle.text.proofs.trim.trim_start.Statement.{statement}
 use Rattle.text.proofs.trim.trim_start.Tie as tie
-use Rattle.text.proofs.trim.trim_start.Reads as reads
-use Rattle.text.proofs.trim.trim_start.Lts as lts
 
 abbrev Inv-loop : tie.InvT-loop
 Inv-loop src from end i₀ i = (i₀ ≤ i) × (i ≤ end) × (trimStart (part i₀ end (cells src from)) ≡ trimStart (part i end (cells src from)))

@@ -1,15 +1,9 @@
 use borrow.Author.Needs.{needs}
 use native.Mathlib.Omega.{arith}
-use mathlib.Core.Path.{_≡_, refl, sym, ap, _∙_}
-use Prim.Native.Nat.{ℕ, suc, _+_, _-_, _≤_, _<_}
-use mathlib.Core.List.{List, [], _∷_, _++_}
+use Prim.Native.Nat.{_-_}
 use Rattle.text.proofs.Areas.{area-whole}
 use Rattle.text.proofs.write.copy.Statement.{statement}
 use Rattle.text.proofs.write.copy.Tie as tie
-use Rattle.text.proofs.write.copy.Reads as reads
-use Rattle.text.proofs.write.copy.Lts as lts
-use Rattle.text.proofs.area.copy_in.Reads as copy-in-reads
-use Rattle.text.proofs.shorter.Reads as shorter-reads
 
 shorter-requires : tie.Need-shorter-requires
 shorter-requires c κs = search needs

@@ -1,19 +1,13 @@
 use borrow.Author.Needs.{needs}
 use native.Mathlib.Omega.{arith}
 use mathlib.Core.Path.{_≡_, refl, sym, ap, _∙_}
-use Prim.Native.Nat.{ℕ, suc, _+_, _-_, _≤_, _<_}
-use mathlib.Core.List.{List, [], _∷_, _++_}
-use lib.ListN.{length, getD}
+use Prim.Native.Nat.{_-_, _≤_}
+use lib.ListN.{length}
 use mathlib.Core.List.{map}
-use Prim.Native.Nat.{_/_}
 use lib.ListN.{take, length-set}
-use native.Mathlib.Nat.{le-antisymm}
 use Rattle.text.proofs.Clearing.{laid-turn, laid-cleared, length-mapped, map-same}
 use Rattle.text.proofs.write.lay_bytes.Statement.{statement}
 use Rattle.text.proofs.write.lay_bytes.Tie as tie
-use Rattle.text.proofs.write.lay_bytes.Reads as reads
-use Rattle.text.proofs.write.lay_bytes.Lts as lts
-use Rattle.text.proofs.zero.zero8.Reads as zero8-reads
 
 abbrev Inv-loop : tie.InvT-loop
 Inv-loop src n out₀ i₀ out i = (i ≤ n) × (length out ≡ length out₀) × (take i out ≡ map (λ x. x) (take i src))

@@ -1,16 +1,9 @@
 use borrow.Author.Needs.{needs}
-use native.Mathlib.Omega.{arith}
-use mathlib.Core.Path.{_≡_, refl, sym, ap, _∙_}
-use Prim.Native.Nat.{ℕ, suc, _+_, _-_, _≤_, _<_}
-use mathlib.Core.List.{List, [], _∷_, _++_}
-use lib.ListN.{length, getD}
+use mathlib.Core.Path.{_∙_}
+use Prim.Native.Nat.{_-_}
 use Rattle.text.proofs.Clearing.{cleared-all}
 use Rattle.text.proofs.write.lay_nothing.Statement.{statement}
 use Rattle.text.proofs.write.lay_nothing.Tie as tie
-use Rattle.text.proofs.write.lay_nothing.Reads as reads
-use Rattle.text.proofs.write.lay_nothing.Lts as lts
-use Rattle.text.proofs.zero.zero32.Reads as zero32-reads
-use Rattle.text.proofs.zero.zero8.Reads as zero8-reads
 
 -- src/write.rt:153:5
 zero8-requires : tie.Need-zero8-requires

@@ -1,19 +1,14 @@
 use borrow.Author.Needs.{needs}
 use native.Mathlib.Omega.{arith}
-use mathlib.Core.Path.{_≡_, refl, sym, ap, _∙_}
-use Prim.Native.Nat.{ℕ, suc, _+_, _-_, _≤_, _<_}
-use mathlib.Core.List.{List, [], _∷_, _++_}
-use lib.ListN.{length, getD}
+use mathlib.Core.Path.{_≡_, refl, _∙_}
+use Prim.Native.Nat.{_-_, _≤_}
+use lib.ListN.{length}
 use mathlib.Core.List.{map}
 use Prim.Native.Nat.{_/_}
 use lib.ListN.{take, length-set}
-use native.Mathlib.Nat.{le-antisymm}
-use Rattle.text.proofs.Clearing.{laid-turn, laid-cleared, length-mapped, map-same}
+use Rattle.text.proofs.Clearing.{laid-turn, laid-cleared, length-mapped}
 use Rattle.text.proofs.write.lay_origins.Statement.{statement}
 use Rattle.text.proofs.write.lay_origins.Tie as tie
-use Rattle.text.proofs.write.lay_origins.Reads as reads
-use Rattle.text.proofs.write.lay_origins.Lts as lts
-use Rattle.text.proofs.zero.zero32.Reads as zero32-reads
 
 abbrev Inv-loop : tie.InvT-loop
 Inv-loop from n plain₀ i₀ plain i = (i ≤ n) × (length plain ≡ length plain₀) × (take i plain ≡ map (λ x. x / 2) (take i from))

@@ -1,17 +1,12 @@
 use borrow.Author.Needs.{needs}
 use native.Mathlib.Omega.{arith}
-use mathlib.Core.Path.{_≡_, refl, sym, ap, _∙_}
-use Prim.Native.Nat.{ℕ, suc, _+_, _-_, _≤_, _<_}
-use mathlib.Core.List.{List, [], _∷_, _++_}
-use lib.ListN.{length, getD}
+use mathlib.Core.Path.{sym, ap, _∙_}
+use Prim.Native.Nat.{_-_}
+use lib.ListN.{length}
 use Rattle.text.proofs.Clearing.{cells-bytes, cells-origins}
 use Rattle.text.specs.Writes.{padded}
 use Rattle.text.proofs.write.lay_out.Statement.{statement}
 use Rattle.text.proofs.write.lay_out.Tie as tie
-use Rattle.text.proofs.write.lay_out.Reads as reads
-use Rattle.text.proofs.write.lay_out.Lts as lts
-use Rattle.text.proofs.write.lay_bytes.Reads as lay-bytes-reads
-use Rattle.text.proofs.write.lay_origins.Reads as lay-origins-reads
 
 lay-bytes-requires : tie.Need-lay-bytes-requires
 lay-bytes-requires c κs = search needs

@@ -1,15 +1,9 @@
 use borrow.Author.Needs.{needs}
 use native.Mathlib.Omega.{arith}
-use mathlib.Core.Path.{_≡_, refl, sym, ap, _∙_}
-use Prim.Native.Nat.{ℕ, suc, _+_, _-_, _≤_, _<_}
-use mathlib.Core.List.{List, [], _∷_, _++_}
-use lib.ListN.{length, getD}
+use Prim.Native.Nat.{_-_}
 use Rattle.text.proofs.Sources.{part-laid}
 use Rattle.text.proofs.write.lay_part.Statement.{statement}
 use Rattle.text.proofs.write.lay_part.Tie as tie
-use Rattle.text.proofs.write.lay_part.Reads as reads
-use Rattle.text.proofs.write.lay_part.Lts as lts
-use Rattle.text.proofs.write.lay_out.Reads as lay-out-reads
 
 -- src/write.rt:146:13
 sub-lay-out : tie.Need-sub-lay-out

@@ -1,15 +1,10 @@
 use borrow.Author.Needs.{needs}
 use native.Mathlib.Omega.{arith}
-use mathlib.Core.Path.{_≡_, refl, sym, ap, _∙_}
-use Prim.Native.Nat.{ℕ, suc, _+_, _-_, _≤_, _<_}
-use mathlib.Core.List.{List, [], _∷_, _++_}
-use lib.ListN.{length, getD}
+use Prim.Native.Nat.{_-_}
 use Rattle.text.proofs.Writing.{cells-set, cells-in, cells-short, cells-short₂, appends-set, appends-full}
 use Rattle.text.specs.Cells.{cell, cells}
 use Rattle.text.proofs.write.put.Statement.{statement}
 use Rattle.text.proofs.write.put.Tie as tie
-use Rattle.text.proofs.write.put.Reads as reads
-use Rattle.text.proofs.write.put.Lts as lts
 
 slice-write-buf : tie.Need-slice-write-buf
 slice-write-buf c = search needs

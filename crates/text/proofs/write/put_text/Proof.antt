@@ -1,19 +1,14 @@
 use borrow.Author.Needs.{needs}
 use native.Mathlib.Omega.{arith}
-use mathlib.Core.Path.{_≡_, refl, sym, ap, _∙_}
-use Prim.Native.Nat.{ℕ, suc, _+_, _-_, _≤_, _<_}
-use mathlib.Core.List.{List, [], _∷_, _++_}
-use lib.ListN.{length, getD}
+use mathlib.Core.Path.{_≡_, refl}
+use Prim.Native.Nat.{_-_, _≤_}
+use lib.ListN.{length}
 use lib.ListN.{drop}
 use Rattle.text.proofs.Numbering.{rest, written-start, written-turn, from-end}
 use Rattle.text.proofs.Writing.{Writing, start, more as go-on, done}
 use Rattle.text.specs.Cells.{cells, written}
 use Rattle.text.proofs.write.put_text.Statement.{statement}
 use Rattle.text.proofs.write.put_text.Tie as tie
-use Rattle.text.proofs.write.put_text.Reads as reads
-use Rattle.text.proofs.write.put_text.Lts as lts
-use Rattle.text.proofs.blank.place_at.Reads as place-at-reads
-use Rattle.text.proofs.write.put.Reads as put-reads
 
 abbrev Inv-loop : tie.InvT-loop
 Inv-loop src buf₀ nums₀ more₀ i₀ to₀ buf nums more i to =
