@@ -26,11 +26,11 @@ impl Lent {
         }
     }
 
-    /// What a caller lends who does not know the post: 2n output bytes, 64 records and 1,024 loss bytes; what the answer says is short is
-    /// doubled and the call made again.
+    /// What `carve::Converter` lends: n + n / 4 + 256 output bytes, 16 records and 256 loss bytes; what the answer says is short is doubled and the
+    /// call made again.
     pub fn for_post(text: &[u8]) -> Lent {
         let n = text.len();
-        let (mut m, mut records, mut loss_bytes) = (2 * n, 64, 1024);
+        let (mut m, mut records, mut loss_bytes) = (n + n / 4 + 256, 16, 256);
         loop {
             let mut lent = Lent::new(n, m, records, loss_bytes);
             match lent.convert(text) {
