@@ -1,4 +1,3 @@
-pub mod Table
 pub mod March
 pub mod Laws
 pub mod DayNumber

@@ -1,4 +1,3 @@
-pub mod Table
 pub mod Classes
 pub mod Pieces
 pub mod Wrapping

@@ -2,16 +2,16 @@
 use mathlib.Core.Path.{_≡_, refl, sym, ap, _∙_}
 use mathlib.Core.Option.{Option, none, some}
 use mathlib.Core.List.{List}
-use mathlib.Core.Bool.{Bool, true, false, cond, not, _&&_, _||_, true≢false}
-use Prim.Native.Nat.{ℕ, _+_, _-_, _*_, _≤_, _<_}
+use mathlib.Core.Bool.{Bool, true, false, cond, _&&_, _||_, true≢false}
+use Prim.Native.Nat.{ℕ, _+_, _-_, _*_, _/_, _^_, _≤_, _<_}
 use native.Mathlib.Nat.{add-zero}
 use native.Mathlib.Omega.{arith}
-use native.Mathlib.Decide.{ℕ-discrete}
-use lib.Dec.{eqb, ltb}
+use lib.Bits.{bitAnd, bitOr, and-le-r}
+use lib.Dec.{eqb, ltb, eqb→eq}
 use lib.ListN.{drop, getD}
 use lib.Seq.{getD-drop}
 use borrow.Author.Tests.{ltb-true, ltb-false, ne-eqb}
-use Rattle.text.specs.Ascii.{is}
+use Rattle.text.proofs.Table.{below}
 use Rattle.mark_tags.specs.Marks.{Kind, bold, italic, underline, strike, Tag, opener, closer, kindOf, tagOf, tagOfBytes, tagAt}
 use Rattle.mark_tags.specs.Flat.{kindNumber, kindNumbered, letterNumber, tagNumber}
 
@@ -28,25 +28,26 @@ kind-numbered italic = refl
 kind-numbered underline = refl
 kind-numbered strike = refl
 
-by-test : {A : Type 0} (a b : ℕ) → (a ≡ b → A) → (eqb a b ≡ false → A) → A
-by-test a b f g = elim (ℕ-discrete a b) [ yes e ↦ f e | no n ↦ g (ne-eqb a b n) ]
+-- the kind in the low four bits of a small letter, if it is the letter of that kind
+abbrev packedKind : ℕ → ℕ
+packedKind small = bitAnd (264384 / 2 ^ (2 * bitAnd small 15)) 3
 
--- the number of a letter's kind as a sum of its tests
-pub letter-sum : (a : ℕ)
-    → cond (is "i" a || is "I" a) 1 0 + 2 * cond (is "u" a || is "U" a) 1 0 + 3 * cond (is "s" a || is "S" a) 1 0
-    + 4 * cond (not ((is "b" a || is "B" a) || (is "i" a || is "I" a) || (is "u" a || is "U" a) || (is "s" a || is "S" a))) 1 0
-    ≡ letterNumber (kindOf a)
-unfolding kindOf
-letter-sum a =
-    by-test a 98 (λ e. rw e refl) λ b.
-    by-test a 66 (λ e. rw e refl) λ B.
-    by-test a 105 (λ e. rw e refl) λ i.
-    by-test a 73 (λ e. rw e refl) λ I.
-    by-test a 117 (λ e. rw e refl) λ u.
-    by-test a 85 (λ e. rw e refl) λ U.
-    by-test a 115 (λ e. rw e refl) λ s.
-    by-test a 83 (λ e. rw e refl) λ S.
-    rw (b, B, i, I, u, U, s, S) refl
+abbrev packedLetter : ℕ → ℕ
+packedLetter kind = bitAnd (1937074530 / 2 ^ (8 * kind)) 255
+
+abbrev unpacked : ℕ → ℕ
+unpacked small = cond (eqb small (packedLetter (packedKind small))) (packedKind small) 4
+
+pub packed-small : (small : ℕ) → packedKind small ≤ 3
+packed-small small = and-le-r (264384 / 2 ^ (2 * bitAnd small 15)) 3
+
+right : ℕ → Bool
+right a = eqb (unpacked (bitOr a 32)) (letterNumber (kindOf a))
+
+-- a test at each of the 256 bytes, which antt computes
+pub letter-unpacked : (a : ℕ) → a < 256 → unpacked (bitOr a 32) ≡ letterNumber (kindOf a)
+unfolding right kindOf
+letter-unpacked a h = eqb→eq (unpacked (bitOr a 32)) (letterNumber (kindOf a)) (below right 256 tt a h)
 
 pub letter-most : (k : Option Kind) → letterNumber k ≤ 4
 letter-most none = omega arith

@@ -7,16 +7,25 @@ ghost use lib.ListN.{length, drop};
 ghost use Rattle.mark_tags.specs.Marks.{kindOf, tagOfBytes, tagAt};
 ghost use Rattle.mark_tags.specs.Flat.{letterNumber, tagNumber};
 
-// The kind that a letter names, as a number; 4 where there is none. A sum: branches on the letter would be mispredicted.
+fn kind_if(same: bool, kind: u32) -> u32
+    ensures { λ r. ⌜ r ≡ cond same kind 4 ⌝ }
+{
+    if same {
+        return kind;
+    }
+    4
+}
+
+// The kind that a letter names, as a number; 4 where there is none. Tables in two numbers: branches on the letter would be mispredicted.
 fn kind_of(a: u8) -> u32
     ensures { λ r. ⌜ r ≡ letterNumber (kindOf a) ⌝ }
 {
-    let bold = (a == b'b') | (a == b'B');
-    let italic = (a == b'i') | (a == b'I');
-    let underline = (a == b'u') | (a == b'U');
-    let strike = (a == b's') | (a == b'S');
-    let none = !(bold | italic | underline | strike);
-    one_if(italic) + 2 * one_if(underline) + 3 * one_if(strike) + 4 * one_if(none)
+    let small = a as u32 | 0x20;
+    // the low four bits of b, i, u and s differ: at each of them stands its kind, of two bits
+    let kind = (0x408c0 >> (2 * (small & 15))) & 3;
+    // the letter of each kind
+    let letter = (0x73756962 >> (8 * kind)) & 255;
+    kind_if(small == letter, kind)
 }
 
 fn either(yes: bool, a: u8, b: u8) -> u8

@@ -1,3 +1,4 @@
+pub mod Table
 pub mod Decide
 pub mod Clearing
 pub mod Writing

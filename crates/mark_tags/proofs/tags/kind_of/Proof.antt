@@ -1,56 +1,28 @@
 use borrow.Author.Needs.{needs}
-use Prim.Native.Nat.{_-_}
-use Rattle.mark_tags.proofs.TagNumbers.{letter-sum}
+use native.Mathlib.Omega.{arith}
+use mathlib.Core.Path.{_∙_}
+use lib.Bits.{bitOr, and-le-r}
+use Rattle.mark_tags.proofs.TagNumbers.{packed-small, letter-unpacked}
 use Rattle.mark_tags.proofs.tags.kind_of.Statement.{statement}
 use Rattle.mark_tags.proofs.tags.kind_of.Tie as tie
 
-one-if-requires : tie.Need-one-if-requires
-one-if-requires c κs = search needs
+mul-kind : tie.Need-mul-kind
+mul-kind c = let h = and-le-r (bitOr (c .args .a) 32) 15 in search needs
 
-one-if-requires-2 : tie.Need-one-if-requires-2
-one-if-requires-2 c κs = search needs
+shr-kind : tie.Need-shr-kind
+shr-kind c = let h = and-le-r (bitOr (c .args .a) 32) 15 in omega arith
 
-mul-result : tie.Need-mul-result
-mul-result c = search needs
+mul-letter : tie.Need-mul-letter
+mul-letter c = let h = packed-small (bitOr (c .args .a) 32) in search needs
 
-add-result : tie.Need-add-result
-add-result c = search needs
+shr-letter : tie.Need-shr-letter
+shr-letter c = let h = packed-small (bitOr (c .args .a) 32) in omega arith
 
-one-if-requires-3 : tie.Need-one-if-requires-3
-one-if-requires-3 c κs = search needs
-
-mul-result-2 : tie.Need-mul-result-2
-mul-result-2 c = search needs
-
-add-result-2 : tie.Need-add-result-2
-add-result-2 c = search needs
-
-one-if-requires-4 : tie.Need-one-if-requires-4
-one-if-requires-4 c κs = search needs
-
-mul-result-3 : tie.Need-mul-result-3
-mul-result-3 c = search needs
-
-add-result-3 : tie.Need-add-result-3
-add-result-3 c = search needs
+kind-if-requires : tie.Need-kind-if-requires
+kind-if-requires c κs = search needs
 
 returns : tie.Need-returns
-returns c =
-    rw (c .before .before .before .one-if .ensures .0, c .before .before .one-if2 .ensures .0, c .before .one-if3 .ensures .0, c .one-if4 .ensures .0)
-    (letter-sum (c .before .before .before .before .args .a))
+returns c = c .kind-if .ensures ∙ letter-unpacked (c .before .args .a) (omega arith)
 
 pub kind-of-spec : {M : Type 1} → statement M
-kind-of-spec =
-    tie.close
-    (tie.spec
-    one-if-requires
-    one-if-requires-2
-    mul-result
-    add-result
-    one-if-requires-3
-    mul-result-2
-    add-result-2
-    one-if-requires-4
-    mul-result-3
-    add-result-3
-    returns)
+kind-of-spec = tie.close (tie.spec mul-kind shr-kind mul-letter shr-letter kind-if-requires returns)
