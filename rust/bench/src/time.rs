@@ -25,6 +25,9 @@ fn now() -> f64 {
     time.seconds as f64 * 1e9 + time.nanoseconds as f64
 }
 
+/// How many samples there are at least, so that a long call too has one that nothing disturbed.
+const SAMPLES: u32 = 60;
+
 /// One call, in nanoseconds: the mean of as many calls as make a sample.
 fn sample(calls: u32, call: &mut dyn FnMut()) -> f64 {
     let start = now();
@@ -46,21 +49,26 @@ fn calls_in_a_sample(length: Duration, call: &mut dyn FnMut()) -> u32 {
 /// Nanoseconds of a call of each contender: the least of the samples of 200 microseconds that fit into `each`. They take turns, so that what disturbs
 /// the machine disturbs them all.
 pub fn in_turns(each: Duration, contenders: &mut [&mut dyn FnMut()]) -> Vec<f64> {
-    by_samples(Duration::from_micros(200), each, contenders)
+    by_samples(Duration::from_micros(200), each, SAMPLES, contenders)
+}
+
+/// The same for one of so many lots: its share of the samples.
+pub fn in_turns_of_a_lot(lots: u32, each: Duration, contenders: &mut [&mut dyn FnMut()]) -> Vec<f64> {
+    by_samples(Duration::from_micros(200), each / lots, SAMPLES / lots, contenders)
 }
 
 /// The same by samples of two milliseconds: calls in a row, for which what another contender left in the caches is a small part.
 pub fn in_a_row(each: Duration, contenders: &mut [&mut dyn FnMut()]) -> Vec<f64> {
-    by_samples(Duration::from_millis(2), each, contenders)
+    by_samples(Duration::from_millis(2), each, SAMPLES, contenders)
 }
 
-/// The least of the samples of a length, sixty at least, so that a long call too has one that nothing disturbed.
-fn by_samples(length: Duration, each: Duration, contenders: &mut [&mut dyn FnMut()]) -> Vec<f64> {
+/// The least of the samples of a length, so many at least.
+fn by_samples(length: Duration, each: Duration, least_samples: u32, contenders: &mut [&mut dyn FnMut()]) -> Vec<f64> {
     let calls: Vec<u32> = contenders.iter_mut().map(|c| calls_in_a_sample(length, *c)).collect();
     let mut least = vec![f64::INFINITY; contenders.len()];
     let until = now() + each.as_nanos() as f64 * contenders.len() as f64;
     let mut rounds = 0;
-    while rounds < 60 || now() < until {
+    while rounds < least_samples || now() < until {
         for ((contender, calls), least) in contenders.iter_mut().zip(&calls).zip(&mut least) {
             *least = least.min(sample(*calls, *contender));
         }
