@@ -10,7 +10,7 @@ use std::{hint::black_box, time::Duration};
 
 /// How much time the least of a contender's samples is looked for: longer than a neighbour on the machine disturbs most samples.
 const EACH: Duration = Duration::from_millis(400);
-/// In how many lots of memory a hard post is timed: how the pages of one lot share the second cache is chance.
+/// In how many lots of memory a hard post is timed: one may be slower for all of its samples.
 const LOTS: u32 = 3;
 /// A contender that takes longer than a quarter of this for a post is not given a longer one.
 const PATIENCE: Duration = Duration::from_millis(600);
