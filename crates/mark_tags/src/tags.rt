@@ -7,6 +7,7 @@ ghost use lib.ListN.{length, drop};
 ghost use Rattle.mark_tags.specs.Marks.{kindOf, tagOfBytes, tagAt};
 ghost use Rattle.mark_tags.specs.Flat.{letterNumber, tagNumber};
 
+// The kind where the letter is that kind's, else 4.
 fn kind_if(same: bool, kind: u32) -> u32
     ensures { λ r. ⌜ r ≡ cond same kind 4 ⌝ }
 {
