@@ -17,7 +17,7 @@ use Rattle.quote_tags.proofs.Plain.{PlainRun}
 use Rattle.quote_tags.proofs.Places.{between-none, between-one}
 use Rattle.quote_tags.specs.Tags.{NextBracket, beginsAny, tagSize, upToBracket, openers, openerSize, attributionOf}
 use Rattle.quote_lines.specs.Lines.{Tag, bare, lineAfter, tags}
-use Rattle.quote_lines.specs.Tables.{weight, wordsAt, TagAt, noTag, Table, Tabled, Untagged, NextOpener, linesBehind}
+use Rattle.quote_lines.specs.Tables.{weight, wordsAt, WordsIn, TagAt, noTag, Weighed, Table, Tabled, Untagged, NextOpener, linesBehind}
 
 -- ---- lines
 
@@ -209,18 +209,17 @@ same-before q ns ns' e j h = sym (getD-take q ns' j 0 h) ∙ ap (λ (l : List �
 pub take-less : (q t : ℕ) (ns ns' : List ℕ) → take q ns' ≡ take q ns → t ≤ q → take t ns' ≡ take t ns
 take-less q t ns ns' e h = sym (take-take t q ns' h) ∙ ap (take t) e ∙ take-take t q ns h
 
-tag-kept : (s ns ns' : List ℕ) (q p line : ℕ) (words : List ℕ) → take q ns' ≡ take q ns → p + 4 ≤ q → TagAt s ns p line words → TagAt s ns' p line words
-unfolding wordsAt
-tag-kept s ns ns' q p line words e h w =
-    let a = same-before q ns ns' e p (omega arith) in
-    let b = same-before q ns ns' e (p + 1) (omega arith) in
-    let c = same-before q ns ns' e (p + 2) (omega arith) in
-    let d = same-before q ns ns' e (p + 3) (omega arith) in
-    record {
-      stands = record { inside = rw (b, c) (w .stands .inside); weighs = rw (b, c, d) (w .stands .weighs) };
-      line-is = a ∙ w .line-is;
-      words-are = rw (b, c) (w .words-are);
-    }
+-- what is known of the numbers before a place holds of others that are the same there
+module _ (s ns ns' : List ℕ) (q p : ℕ) (e : take q ns' ≡ take q ns) (h : p + 3 ≤ q) where
+  pub words-kept : wordsAt s ns' p ≡ wordsAt s ns p
+  unfolding wordsAt
+  words-kept = rw (same-before q ns ns' e (p + 1) (omega arith), same-before q ns ns' e (p + 2) (omega arith))
+
+  pub words-in-kept : WordsIn s ns p → WordsIn s ns' p
+  words-in-kept w = rw (same-before q ns ns' e (p + 1) (omega arith), same-before q ns ns' e (p + 2) (omega arith)) w
+
+  tag-kept : {line : ℕ} {words : List ℕ} → TagAt s ns p line words → TagAt s ns' p line words
+  tag-kept w = record { inside = words-in-kept (w .inside); line-is = same-before q ns ns' e p (omega arith) ∙ w .line-is; words-are = words-kept ∙ w .words-are }
 
 -- the attribution of the tag at p, cut out of the text
 module _ (s ns : List ℕ) (p : ℕ) where
@@ -231,8 +230,8 @@ module _ (s ns : List ℕ) (p : ℕ) where
   unfolding wordsAt
   words-cut = let q : from + getD ns (p + 2) 0 - from ≡ getD ns (p + 2) 0 = omega arith in rw q
 
--- the four numbers of a tag, written at p
-module _ (s ns : List ℕ) (p line a size short : ℕ) (h : a + size ≤ length s) (g : p + 4 ≤ length ns) (e : short ≡ weight (bare (take size (drop a s)))) where
+-- the three numbers of a tag, written at p
+module _ (s ns : List ℕ) (p line a size : ℕ) (h : a + size ≤ length s) (g : p + 3 ≤ length ns) where
   abbrev ns₁ : List ℕ
   ns₁ = set ns p line
 
@@ -242,31 +241,51 @@ module _ (s ns : List ℕ) (p line a size short : ℕ) (h : a + size ≤ length 
   abbrev ns₃ : List ℕ
   ns₃ = set ns₂ (p + 2) size
 
-  abbrev ns₄ : List ℕ
-  ns₄ = set ns₃ (p + 3) short
-
-  pub tag-put : TagAt s (set (set (set (set ns p line) (p + 1) a) (p + 2) size) (p + 3) short) p line (take size (drop a s))
-      × (take p (set (set (set (set ns p line) (p + 1) a) (p + 2) size) (p + 3) short) ≡ take p ns)
+  pub tag-put : TagAt s (set (set (set ns p line) (p + 1) a) (p + 2) size) p line (take size (drop a s))
+      × (take p (set (set (set ns p line) (p + 1) a) (p + 2) size) ≡ take p ns)
   unfolding wordsAt
   tag-put =
       let l₁ : length ns₁ ≡ length ns = length-set ns p line in
       let l₂ : length ns₂ ≡ length ns = length-set ns₁ (p + 1) a ∙ l₁ in
-      let l₃ : length ns₃ ≡ length ns = length-set ns₂ (p + 2) size ∙ l₂ in
-      let g₃ : getD ns₄ (p + 3) 0 ≡ short = getD-set-same ns₃ (p + 3) short 0 (omega arith) in
-      let g₂ : getD ns₄ (p + 2) 0 ≡ size = getD-set-other ns₃ (p + 3) (p + 2) short 0 (λ q. omega (arith, q)) ∙ getD-set-same ns₂ (p + 2) size 0 (omega arith) in
-      let g₁ : getD ns₄ (p + 1) 0 ≡ a =
-      getD-set-other ns₃ (p + 3) (p + 1) short 0 (λ q. omega (arith, q)) ∙ getD-set-other ns₂ (p + 2) (p + 1) size 0 (λ q. omega (arith, q)) ∙ getD-set-same ns₁ (p + 1) a 0 (omega arith) in
-      let g₀ : getD ns₄ p 0 ≡ line =
-      getD-set-other ns₃ (p + 3) p short 0 (λ q. omega (arith, q)) ∙ getD-set-other ns₂ (p + 2) p size 0 (λ q. omega (arith, q))
-      ∙ getD-set-other ns₁ (p + 1) p a 0 (λ q. omega (arith, q)) ∙ getD-set-same ns p line 0 (omega arith) in (
-        record {
-          stands = record { inside = rw (g₁, g₂) h; weighs = rw (g₁, g₂, g₃) e };
-          line-is = g₀;
-          words-are = rw (g₁, g₂);
-        },
-        take-set-le p ns₃ (p + 3) short (omega arith) ∙ take-set-le p ns₂ (p + 2) size (omega arith)
-            ∙ take-set-le p ns₁ (p + 1) a (omega arith) ∙ take-set-le p ns p line (omega arith),
+      let g₂ : getD ns₃ (p + 2) 0 ≡ size = getD-set-same ns₂ (p + 2) size 0 (omega arith) in
+      let g₁ : getD ns₃ (p + 1) 0 ≡ a = getD-set-other ns₂ (p + 2) (p + 1) size 0 (λ q. omega (arith, q)) ∙ getD-set-same ns₁ (p + 1) a 0 (omega arith) in
+      let g₀ : getD ns₃ p 0 ≡ line =
+      getD-set-other ns₂ (p + 2) p size 0 (λ q. omega (arith, q)) ∙ getD-set-other ns₁ (p + 1) p a 0 (λ q. omega (arith, q)) ∙ getD-set-same ns p line 0 (omega arith) in (
+        record { inside = rw (g₁, g₂) h; line-is = g₀; words-are = rw (g₁, g₂) },
+        take-set-le p ns₂ (p + 2) size (omega arith) ∙ take-set-le p ns₁ (p + 1) a (omega arith) ∙ take-set-le p ns p line (omega arith),
       )
+
+-- the weights of the first i tags are written, and nothing else
+pub record Weighing (s ns ns' : List ℕ) (t count i : ℕ) : Type 0 where
+  pub each : (k : ℕ) → k < i → getD ns' (t + 3 * count + k) 0 ≡ weight (bare (wordsAt s ns (t + 3 * k)))
+  pub long : length ns' ≡ length ns
+  pub kept : take (t + 3 * count) ns' ≡ take (t + 3 * count) ns
+  pub inside : i ≤ count
+
+pub weighing : (s ns : List ℕ) (t count : ℕ) → Weighing s ns ns t count 0
+weighing s ns t count = record { each = λ k lt. absurd (omega (arith, lt)); long = refl; kept = refl; inside = omega arith }
+
+module _ {s ns ns' : List ℕ} {t count i : ℕ} (w : Weighing s ns ns' t count i) where
+  pub weighing-on : {x : ℕ} → i < count → t + 4 * count ≤ length ns → x ≡ weight (bare (wordsAt s ns' (t + 3 * i))) → Weighing s ns (set ns' (t + 3 * count + i) x) t count (i + 1)
+  weighing-on {x} lt room e = record {
+    each = λ k h. at k h (decLe i k);
+    long = length-set ns' (t + 3 * count + i) x ∙ w .long;
+    kept = take-set-le (t + 3 * count) ns' (t + 3 * count + i) x (omega arith) ∙ w .kept;
+    inside = omega arith;
+  }
+    where
+      new : getD (set ns' (t + 3 * count + i) x) (t + 3 * count + i) 0 ≡ weight (bare (wordsAt s ns (t + 3 * i)))
+      new =
+          getD-set-same ns' (t + 3 * count + i) x 0 (omega (arith, w .long)) ∙ e
+          ∙ ap (λ (y : List ℕ). weight (bare y)) (words-kept s ns ns' (t + 3 * count) (t + 3 * i) (w .kept) (omega arith))
+
+      at : (k : ℕ) → k < i + 1 → Dec (i ≤ k) → getD (set ns' (t + 3 * count + i) x) (t + 3 * count + k) 0 ≡ weight (bare (wordsAt s ns (t + 3 * k)))
+      at k h (yes p) = let c : i ≡ k = omega (arith, h, p) in subst (λ (y : ℕ). getD (set ns' (t + 3 * count + i) x) (t + 3 * count + y) 0 ≡ weight (bare (wordsAt s ns (t + 3 * y)))) c new
+      at k h (no p) = getD-set-other ns' (t + 3 * count + i) (t + 3 * count + k) x 0 (λ q. omega (arith, p, q)) ∙ w .each k (omega (arith, p))
+
+  pub weighing-end : count ≤ i → Weighed s ns' t count × (take (t + 3 * count) ns' ≡ take (t + 3 * count) ns)
+  weighing-end le =
+      (λ k lt. w .each k (omega (arith, le, lt)) ∙ ap (λ (y : List ℕ). weight (bare y)) (sym (words-kept s ns ns' (t + 3 * count) (t + 3 * k) (w .kept) (omega (arith, lt)))), w .kept)
 
 -- ---- reading
 
@@ -319,7 +338,7 @@ module _ (s ns : List ℕ) (t i line count : ℕ) (w : Tabled s ns t i line coun
         sym a ∙ ap (λ (l : List Tag). getD l 0 noTag) split
 
     pub tabled-opener : (ns' : List ℕ) {next size : ℕ} → size ≡ k - 8
-        → TagAt s ns' (t + 4 * count) line (take size (drop (i + 7) s)) × (take (t + 4 * count) ns' ≡ take (t + 4 * count) ns)
+        → TagAt s ns' (t + 3 * count) line (take size (drop (i + 7) s)) × (take (t + 3 * count) ns' ≡ take (t + 3 * count) ns)
         → (next ≡ linesBehind line (take (i + k - i) (drop i s))) × (next ≤ line + (i + k - i)) → Tabled s ns' t (i + k) next (count + 1)
     unfolding comes more
     tabled-opener ns' {next} {size} z (g, b) (q, m) =
@@ -334,18 +353,24 @@ module _ (s ns : List ℕ) (t i line count : ℕ) (w : Tabled s ns t i line coun
           each = λ j lt. at j lt (decLe count j);
         }
       where
-        new : TagAt s ns' (t + 4 * count) (getD (tags 1 0 s) count noTag .line) (getD (tags 1 0 s) count noTag .attribution)
-        new = rw here (subst (λ (y : ℕ). TagAt s ns' (t + 4 * count) line (take y (drop (i + 7) s))) z g)
+        new : TagAt s ns' (t + 3 * count) (getD (tags 1 0 s) count noTag .line) (getD (tags 1 0 s) count noTag .attribution)
+        new = rw here (subst (λ (y : ℕ). TagAt s ns' (t + 3 * count) line (take y (drop (i + 7) s))) z g)
 
-        at : (j : ℕ) → j < count + 1 → Dec (count ≤ j) → TagAt s ns' (t + 4 * j) (getD (tags 1 0 s) j noTag .line) (getD (tags 1 0 s) j noTag .attribution)
-        at j lt (yes p) = let c : count ≡ j = omega (arith, lt, p) in subst (λ (y : ℕ). TagAt s ns' (t + 4 * y) (getD (tags 1 0 s) y noTag .line) (getD (tags 1 0 s) y noTag .attribution)) c new
-        at j lt (no p) = tag-kept s ns ns' (t + 4 * count) (t + 4 * j) _ _ b (omega (arith, p)) (w .each j (omega (arith, p)))
+        at : (j : ℕ) → j < count + 1 → Dec (count ≤ j) → TagAt s ns' (t + 3 * j) (getD (tags 1 0 s) j noTag .line) (getD (tags 1 0 s) j noTag .attribution)
+        at j lt (yes p) = let c : count ≡ j = omega (arith, lt, p) in subst (λ (y : ℕ). TagAt s ns' (t + 3 * y) (getD (tags 1 0 s) y noTag .line) (getD (tags 1 0 s) y noTag .attribution)) c new
+        at j lt (no p) = tag-kept s ns ns' (t + 3 * count) (t + 3 * j) b (omega (arith, p)) (w .each j (omega (arith, p)))
 
-  pub tabled-end : length s ≤ i → i ≤ length s → t + length s ≤ length ns → Table s ns t count
+  -- all tags are read, and ns' has their weights behind them
+  pub tabled-end : length s ≤ i → i ≤ length s → (ns' : List ℕ) → t + length s ≤ length ns' → Weighed s ns' t count × (take (t + 3 * count) ns' ≡ take (t + 3 * count) ns) → Table s ns' t count
   unfolding tags
-  tabled-end le ge room =
+  tabled-end le ge ns' room (v, b) =
       let a : drop i s ≡ [] = drop-of-length-le s {i = i} le in
-      let b : tags line 0 (drop i s) ≡ [] = rw a in
+      let n : tags line 0 (drop i s) ≡ [] = rw a in
       let d : length (drop count (tags 1 0 s)) ≡ length (tags 1 0 s) - count = length-drop count (tags 1 0 s) in
-      let z : length (drop count (tags 1 0 s)) ≡ 0 = ap length (w .rest ∙ b) in
-      record { all = omega (arith, d, z, w .some); room = omega (arith, w .few); each = w .each }
+      let z : length (drop count (tags 1 0 s)) ≡ 0 = ap length (w .rest ∙ n) in
+      record {
+        all = omega (arith, d, z, w .some);
+        room = omega (arith, w .few);
+        each = λ k lt. tag-kept s ns ns' (t + 3 * count) (t + 3 * k) b (omega (arith, lt)) (w .each k lt);
+        weighed = v;
+      }

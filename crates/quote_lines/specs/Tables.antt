@@ -1,8 +1,10 @@
--- The table of the quote tags of a text s in code, from place t of a slice of numbers on: for each tag four numbers, its line, the place and
--- the length of its attribution in s, and the weight of that without backslashes.
+-- The table of the quote tags of a text s in code, from place t of a slice of numbers on: for each tag three numbers, its line, the place and
+-- the length of its attribution in s; and behind these, for each tag what its attribution weighs without backslashes.
 --   weight s              256 for each byte, and the bytes' sum: what has different weights is different
 --   wordsAt s ns p        the attribution of the tag whose numbers stand at p
+--   WordsIn s ns p        it stands in s
 --   TagAt s ns p tag      the numbers at p are those of a tag
+--   Weighed s ns t count  behind the numbers of so many tags stand the weights of their attributions
 --   Table s ns t count    the table holds the tags of s, so many
 --   LinesRead text bs ns size count  bs begins with the masked text, so many bytes, and ns with its table
 --   lineIn ns t count next  the line of tag `next`, at most the last; 1 if there are none
@@ -30,12 +32,11 @@ weight (b ∷ s) = 256 + b + weight s
 unfoldable pub wordsAt : (s ns : List ℕ) → ℕ → List ℕ
 wordsAt s ns p = take (getD ns (p + 2) 0) (drop (getD ns (p + 1) 0) s)
 
-pub record WordsAt (s ns : List ℕ) (p : ℕ) : Type 0 where
-  pub inside : getD ns (p + 1) 0 + getD ns (p + 2) 0 ≤ length s
-  pub weighs : getD ns (p + 3) 0 ≡ weight (bare (wordsAt s ns p))
+abbrev pub WordsIn : (s ns : List ℕ) (p : ℕ) → Type 0
+WordsIn s ns p = getD ns (p + 1) 0 + getD ns (p + 2) 0 ≤ length s
 
 pub record TagAt (s ns : List ℕ) (p line : ℕ) (attribution : List ℕ) : Type 0 where
-  pub stands : WordsAt s ns p
+  pub inside : WordsIn s ns p
   pub line-is : getD ns p 0 ≡ line
   pub words-are : wordsAt s ns p ≡ attribution
 
@@ -43,12 +44,16 @@ abbrev pub noTag : Tag
 noTag = record { line = 1; attribution = [] }
 
 abbrev pub TagsAt : (s ns : List ℕ) (t count : ℕ) → Type 0
-TagsAt s ns t count = (k : ℕ) → k < count → TagAt s ns (t + 4 * k) (getD (tags 1 0 s) k noTag .line) (getD (tags 1 0 s) k noTag .attribution)
+TagsAt s ns t count = (k : ℕ) → k < count → TagAt s ns (t + 3 * k) (getD (tags 1 0 s) k noTag .line) (getD (tags 1 0 s) k noTag .attribution)
+
+abbrev pub Weighed : (s ns : List ℕ) (t count : ℕ) → Type 0
+Weighed s ns t count = (k : ℕ) → k < count → getD ns (t + 3 * count + k) 0 ≡ weight (bare (wordsAt s ns (t + 3 * k)))
 
 pub record Table (s ns : List ℕ) (t count : ℕ) : Type 0 where
   pub all : count ≡ length (tags 1 0 s)
   pub room : t + 4 * count ≤ length ns
   pub each : TagsAt s ns t count
+  pub weighed : Weighed s ns t count
 
 pub record LinesRead (text bs ns : List ℕ) (size count : ℕ) : Type 0 where
   pub short : size ≤ length text
@@ -56,7 +61,7 @@ pub record LinesRead (text bs ns : List ℕ) (size count : ℕ) : Type 0 where
   pub table : Table (take size bs) ns 0 count
 
 unfoldable pub lineIn : (ns : List ℕ) (t count next : ℕ) → ℕ
-lineIn ns t count next = cond (eqb count 0) 1 (getD ns (t + 4 * min next (count - 1)) 0)
+lineIn ns t count next = cond (eqb count 0) 1 (getD ns (t + 3 * min next (count - 1)) 0)
 
 pub record Tabled (s ns : List ℕ) (t i line count : ℕ) : Type 0 where
   pub rest : drop count (tags 1 0 s) ≡ tags line 0 (drop i s)

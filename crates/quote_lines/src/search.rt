@@ -1,4 +1,6 @@
 // The quote tags of the original text, and the line of a converted quote.
+use crate::weights::bare_weight;
+use crate::weights::next_number;
 use quote_tags::mask::mask_all;
 use quote_tags::tag::bracket_from;
 use quote_tags::tag::next_tag;
@@ -14,8 +16,8 @@ ghost use Prim.Native.Nat.{ℕ, _+_, _-_, _*_, _≤_, _<_};
 ghost use lib.ListN.{length, take, drop};
 ghost use Rattle.text.specs.Ascii.{toBracket};
 ghost use Rattle.quote_tags.specs.Tags.{NextBracket, openerSize};
-ghost use Rattle.quote_lines.specs.Lines.{bare, tags, same, place, nextAfter, lineAt};
-ghost use Rattle.quote_lines.specs.Tables.{weight as weightOf, wordsAt, WordsAt, TagAt, Table, LinesRead, lineIn, Tabled, NextOpener, linesBehind, PastBackslashes};
+ghost use Rattle.quote_lines.specs.Lines.{bare, tags, same, find, place, nextAfter, lineAt};
+ghost use Rattle.quote_lines.specs.Tables.{weight, wordsAt, WordsIn, Weighed, TagAt, Table, LinesRead, lineIn, Tabled, NextOpener, linesBehind, PastBackslashes};
 
 // A place in the text, the place of the next `]`, the line there, and how many tags stand in the table.
 pub struct Reading {
@@ -44,23 +46,6 @@ fn past_backslashes(s: &[u8], at: usize) -> usize
         i += 1;
     }
     i
-}
-
-// The weight of a text without its backslashes. It tells most texts apart that are not the same, without a look at their bytes.
-fn bare_weight(s: &[u8]) -> usize
-    requires { ⌜ length (now s) ≤ 16777216 ⌝ }
-    ensures { λ r. ⌜ (r ≡ weightOf (bare (now (s .entry)))) × (r ≤ 511 * length (now (s .entry))) ⌝ }
-{
-    let mut n: usize = 0;
-    let mut i: usize = 0;
-    while i < s.len() {
-        let b = s[i];
-        if b != b'\\' {
-            n += 256 + b as usize;
-        }
-        i += 1;
-    }
-    n
 }
 
 // Whether two texts are the same without their backslashes.
@@ -153,15 +138,12 @@ pub fn attribution_size(k: usize) -> usize
 
 // Writes the numbers of a tag in this line, whose attribution stands from a on.
 fn put_tag(s: &[u8], numbers: &mut [u32], p: usize, line: usize, a: usize, size: usize)
-    requires { ⌜ ((a + size ≤ length (now s)) × (length (now s) ≤ 262144)) × ((line ≤ 1000000) × (p + 4 ≤ length (now numbers))) ⌝ }
+    requires { ⌜ ((a + size ≤ length (now s)) × (length (now s) ≤ 262144)) × ((line ≤ 1000000) × (p + 3 ≤ length (now numbers))) ⌝ }
     ensures { λ _. ⌜ TagAt (now (s .entry)) (now (numbers .exit)) p line (take size (drop a (now (s .entry)))) × (take p (now (numbers .exit)) ≡ take p (now (numbers .entry))) ⌝ }
 {
-    let e = a + size;
-    let weight = bare_weight(&s[a..e]);
     numbers[p] = line as u32;
     numbers[p + 1] = a as u32;
     numbers[p + 2] = size as u32;
-    numbers[p + 3] = weight as u32;
 }
 
 // A quote opener, its size and the place of the next `]`.
@@ -243,7 +225,7 @@ fn read_tag(s: &[u8], numbers: &mut [u32], t: usize, from: Reading) -> Reading
     let i = place.0;
     let line_here = line_behind(s, at.0, i, line);
     let size = attribution_size(k);
-    put_tag(s, numbers, t + 4 * count, line_here, i + 7, size);
+    put_tag(s, numbers, t + 3 * count, line_here, i + 7, size);
     let next = i + k;
     let line_next = line_behind(s, i, next, line_here);
     Reading {
@@ -251,6 +233,29 @@ fn read_tag(s: &[u8], numbers: &mut [u32], t: usize, from: Reading) -> Reading
         bracket,
         line: line_next,
         count: count + 1,
+    }
+}
+
+// What the attribution of the tag at p weighs.
+fn weight_at(s: &[u8], numbers: &[u32], p: usize) -> u32
+    requires { ⌜ (length (now s) ≤ 262144) × ((p + 3 ≤ length (now numbers)) × WordsIn (now s) (now numbers) p) ⌝ }
+    ensures { λ r. ⌜ r ≡ weight (bare (wordsAt (now (s .entry)) (now (numbers .entry)) p)) ⌝ }
+{
+    let a = numbers[p + 1] as usize;
+    let e = a + numbers[p + 2] as usize;
+    bare_weight(&s[a..e]) as u32
+}
+
+// Writes behind the numbers of the tags what their attributions weigh.
+fn put_weights(s: &[u8], numbers: &mut [u32], t: usize, count: usize)
+    requires { ⌜ ((length (now s) ≤ 262144) × (t + 4 * count ≤ length (now numbers))) × ((k : ℕ) → k < count → WordsIn (now s) (now numbers) (t + 3 * k)) ⌝ }
+    ensures { λ _. ⌜ Weighed (now (s .entry)) (now (numbers .exit)) t count × (take (t + 3 * count) (now (numbers .exit)) ≡ take (t + 3 * count) (now (numbers .entry))) ⌝ }
+{
+    let mut i: usize = 0;
+    while i < count {
+        let here = weight_at(s, numbers, t + 3 * i);
+        numbers[t + 3 * count + i] = here;
+        i += 1;
     }
 }
 
@@ -271,7 +276,9 @@ pub fn read_tags(s: &[u8], numbers: &mut [u32], t: usize) -> usize
         let at = st.at;
         i = at.0;
     }
-    st.count
+    let count = st.count;
+    put_weights(s, numbers, t, count);
+    count
 }
 
 // How many bytes a masked text has, and how many tags its table.
@@ -291,15 +298,11 @@ pub fn read_lines(text: &[u8], work: &mut [u8], numbers: &mut [u32]) -> Lines
     Lines { size, count }
 }
 
-// Whether the tag at p has an attribution that is the same without backslashes; `weight` is what that weighs.
-fn has_attribution(s: &[u8], numbers: &[u32], p: usize, attribution: &[u8], weight: usize) -> bool
-    requires { ⌜ ((p + 4 ≤ length (now numbers)) × (weight ≡ weightOf (bare (now attribution)))) × WordsAt (now s) (now numbers) p ⌝ }
+// Whether the tag at p has an attribution that is the same without backslashes.
+fn has_attribution(s: &[u8], numbers: &[u32], p: usize, attribution: &[u8]) -> bool
+    requires { ⌜ (p + 3 ≤ length (now numbers)) × WordsIn (now s) (now numbers) p ⌝ }
     ensures { λ r. ⌜ r ≡ same (bare (wordsAt (now (s .entry)) (now (numbers .entry)) p)) (bare (now (attribution .entry))) ⌝ }
 {
-    let there = numbers[p + 3] as usize;
-    if there != weight {
-        return false;
-    }
     let a = numbers[p + 1] as usize;
     let e = a + numbers[p + 2] as usize;
     same_bare(&s[a..e], attribution)
@@ -307,7 +310,7 @@ fn has_attribution(s: &[u8], numbers: &[u32], p: usize, attribution: &[u8], weig
 
 // Whether the tag at p has just this attribution, with its backslashes.
 fn has_words(s: &[u8], numbers: &[u32], p: usize, attribution: &[u8]) -> bool
-    requires { ⌜ (p + 4 ≤ length (now numbers)) × WordsAt (now s) (now numbers) p ⌝ }
+    requires { ⌜ (p + 3 ≤ length (now numbers)) × WordsIn (now s) (now numbers) p ⌝ }
     ensures { λ r. ⌜ (r ≡ true → wordsAt (now (s .entry)) (now (numbers .entry)) p ≡ now (attribution .entry)) ⌝ }
 {
     let a = numbers[p + 1] as usize;
@@ -315,18 +318,53 @@ fn has_words(s: &[u8], numbers: &[u32], p: usize, attribution: &[u8]) -> bool
     same_text(&s[a..e], attribution)
 }
 
+// The first tag from `next` on with this attribution; where there is none, the number of tags or, if that is greater, `next`.
+fn find_tag(
+    s: &[u8],
+    numbers: &[u32],
+    t: usize,
+    count: usize,
+    next: usize,
+    attribution: &[u8],
+) -> usize
+    requires { ⌜ Table (now s) (now numbers) t count × (length (now attribution) ≤ 16777216) ⌝ }
+    ensures { λ r. ⌜ r ≡ next + find (now (attribution .entry)) (drop next (tags 1 0 (now (s .entry)))) ⌝ }
+{
+    // A quote that marks left as it was has just the attribution of tag `next`.
+    if next < count {
+        if has_words(s, numbers, t + 3 * next, attribution) {
+            return next;
+        }
+    }
+    // A text that is heavier than a number can say is no tag's.
+    let weight = shorter(bare_weight(attribution), 4294967295) as u32;
+    let w = t + 3 * count;
+    let mut i = next;
+    while i < count {
+        i = next_number(&numbers[w..w + count], i, weight);
+        if count <= i {
+            return i;
+        }
+        if has_attribution(s, numbers, t + 3 * i, attribution) {
+            return i;
+        }
+        i += 1;
+    }
+    i
+}
+
 // The line of tag `next`, at most the last; 1 if there are no tags.
 fn line_at(numbers: &[u32], t: usize, count: usize, next: usize) -> u32
-    requires { ⌜ t + 4 * count ≤ length (now numbers) ⌝ }
+    requires { ⌜ t + 3 * count ≤ length (now numbers) ⌝ }
     ensures { λ r. ⌜ r ≡ lineIn (now (numbers .entry)) t count next ⌝ }
 {
     if count == 0 {
         return 1;
     }
     if next < count {
-        return numbers[t + 4 * next];
+        return numbers[t + 3 * next];
     }
-    numbers[t + 4 * (count - 1)]
+    numbers[t + 3 * (count - 1)]
 }
 
 // The line of a quote with this attribution, searched from tag `next` on.
@@ -341,25 +379,12 @@ pub fn line_of(
     requires { ⌜ Table (now s) (now numbers) t count × (length (now attribution) ≤ 16777216) ⌝ }
     ensures { λ r. ⌜ (r .line ≡ lineAt (tags 1 0 (now (s .entry))) (place (tags 1 0 (now (s .entry))) next (now (attribution .entry)))) × (r .next ≡ nextAfter (tags 1 0 (now (s .entry))) next (now (attribution .entry))) ⌝ }
 {
-    // A quote that marks left as it was has just the attribution of tag `next`.
-    if next < count {
-        if has_words(s, numbers, t + 4 * next, attribution) {
-            return Found {
-                line: numbers[t + 4 * next],
-                next: next + 1,
-            };
-        }
-    }
-    let weight = bare_weight(attribution);
-    let mut i = next;
-    while i < count {
-        if has_attribution(s, numbers, t + 4 * i, attribution, weight) {
-            return Found {
-                line: numbers[t + 4 * i],
-                next: i + 1,
-            };
-        }
-        i += 1;
+    let i = find_tag(s, numbers, t, count, next, attribution);
+    if i < count {
+        return Found {
+            line: numbers[t + 3 * i],
+            next: i + 1,
+        };
     }
     let line = line_at(numbers, t, count, next);
     Found { line, next }

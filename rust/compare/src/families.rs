@@ -138,6 +138,21 @@ fn deep(draws: &mut Draws) -> String {
     format!("{}{lines}{}{again}{lines}", opener.repeat(depth), closer.repeat(closed))
 }
 
+/// Many quotes in a row, with few attributions, many of which weigh the same. A quote in a mask is converted and has no tag, and one with a closer
+/// inside has another attribution than its tag: the tag that they take may stand far behind.
+fn many_quotes(draws: &mut Draws) -> String {
+    const LETTERS: &[&str] = &["a", "b", "c", "d", "e", "f"];
+    let mut out = String::new();
+    for _ in 0..1 + draws.below(120) {
+        let (one, other) = (draws.pick(LETTERS), draws.pick(LETTERS));
+        let between = draws.pick(&["", "", "", "", "\\", "[/i]"]);
+        let quote = format!("[quote={one}{between}{other} k=1]x[/quote]");
+        out.push_str(&if draws.below(4) == 0 { format!("[c]{quote}[/c]") } else { quote });
+        out.push_str(&"\n".repeat(draws.below(2)));
+    }
+    out
+}
+
 fn exhaustive(operation: Operation, name: &str, pieces: &'static [&'static str], longest: u32) -> Family {
     Family {
         name: format!("{name}, up to {longest} of {} pieces", pieces.len()),
@@ -190,6 +205,9 @@ pub fn families(extent: Extent, seed: u64) -> Vec<Family> {
             (vec![Operation::ATTRIBUTION], grammar::attribution(&mut draws(2, number)))
         }),
         family("random depths around 64", Sort::Random, times(600, 3_000), move |number| (PASSES.to_vec(), deep(&mut draws(3, number)))),
+        family("random quotes, many in a row", Sort::Random, times(1_000, 10_000), move |number| {
+            (vec![Operation::POST, Operation::QUOTES], many_quotes(&mut draws(6, number)))
+        }),
         family("random days", Sort::Random, times(20_000, 200_000), move |number| {
             let mut draws = draws(4, number);
             let text = (0..draws.below(14)).map(|_| draws.pick(&["0", "1", "9", "5", "7", "3", "0", "2", "8", "4"])).collect::<String>();

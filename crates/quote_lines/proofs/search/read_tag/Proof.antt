@@ -51,7 +51,7 @@ same-length c = search needs
 
 returns-2 : tie.Need-returns-2
 unfolding openerSize
-returns-2 c = let a = c .before .before .before .before .before .before .before .before .before .before .before .before .before .before in let r = c .before .before .before .before .before .before .before .before .before .before .next-opener .result in let o = c .before .before .before .before .before .before .before .before .before .before .next-opener .ensures in let s = a .args .s .now in let n = c .before .before .before .before .before .before .before .if1 .left in let w = behind-within openers s (r .at .0) (o .before .inside) (o .size) in let l = opener-long (drop (r .at .0) s) (o .size) n in let tb = tabled-on _ _ _ _ _ _ (a .pre .1 .1 .1) (o .before) (c .before .before .before .before .before .before .line-behind .ensures) in let t = behind-bracket openers s (r .at .0) (o .before .inside) (o .size) (o .closed n) n in let p = c .before .before .before .put-tag .ensures in ((omega (arith, o .before .order, l), w), (take-less (a .args .t + 4 * a .args .from .count) (a .args .t) _ _ (p .1) (omega arith), (λ le. absurd (omega (arith, t, le)), tabled-opener _ _ _ _ _ _ tb _ (o .size) n _ (c .before .before .before .before .before .attribution-size .ensures) p (c .line-behind2 .ensures))))
+returns-2 c = let a = c .before .before .before .before .before .before .before .before .before .before .before .before .before .before in let r = c .before .before .before .before .before .before .before .before .before .before .next-opener .result in let o = c .before .before .before .before .before .before .before .before .before .before .next-opener .ensures in let s = a .args .s .now in let n = c .before .before .before .before .before .before .before .if1 .left in let w = behind-within openers s (r .at .0) (o .before .inside) (o .size) in let l = opener-long (drop (r .at .0) s) (o .size) n in let tb = tabled-on _ _ _ _ _ _ (a .pre .1 .1 .1) (o .before) (c .before .before .before .before .before .before .line-behind .ensures) in let t = behind-bracket openers s (r .at .0) (o .before .inside) (o .size) (o .closed n) n in let p = c .before .before .before .put-tag .ensures in ((omega (arith, o .before .order, l), w), (take-less (a .args .t + 3 * a .args .from .count) (a .args .t) _ _ (p .1) (omega arith), (λ le. absurd (omega (arith, t, le)), tabled-opener _ _ _ _ _ _ tb _ (o .size) n _ (c .before .before .before .before .before .attribution-size .ensures) p (c .line-behind2 .ensures))))
 
 pub read-tag-spec : {M : Type 1} → statement M
 read-tag-spec =

@@ -4,8 +4,8 @@ use Prim.Native.Nat.{_-_}
 use lib.ListN.{length}
 use mathlib.Core.Logic.{⊎-elim}
 use Rattle.quote_lines.proofs.Bared.{Weighing, weighing, weighing-on, weighing-over, weighing-end}
-use Rattle.quote_lines.proofs.search.bare_weight.Statement.{statement}
-use Rattle.quote_lines.proofs.search.bare_weight.Tie as tie
+use Rattle.quote_lines.proofs.weights.bare_weight.Statement.{statement}
+use Rattle.quote_lines.proofs.weights.bare_weight.Tie as tie
 
 abbrev Inv-loop : tie.InvT-loop
 Inv-loop s n₀ i₀ n i = Weighing s n i
