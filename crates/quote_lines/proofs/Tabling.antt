@@ -230,6 +230,12 @@ module _ (s ns : List ℕ) (p : ℕ) where
   unfolding wordsAt
   words-cut = let q : from + getD ns (p + 2) 0 - from ≡ getD ns (p + 2) 0 = omega arith in rw q
 
+  pub words-short : length (take (from + getD ns (p + 2) 0 - from) (drop from s)) ≤ length s
+  words-short =
+      let t = length-take (from + getD ns (p + 2) 0 - from) (drop from s) in
+      let d = length-drop from s in
+      omega (arith, t, d)
+
 -- the three numbers of a tag, written at p
 module _ (s ns : List ℕ) (p line a size : ℕ) (h : a + size ≤ length s) (g : p + 3 ≤ length ns) where
   abbrev ns₁ : List ℕ

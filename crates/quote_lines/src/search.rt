@@ -17,7 +17,7 @@ ghost use lib.ListN.{length, take, drop};
 ghost use Rattle.text.specs.Ascii.{toBracket};
 ghost use Rattle.quote_tags.specs.Tags.{NextBracket, openerSize};
 ghost use Rattle.quote_lines.specs.Lines.{bare, tags, same, find, place, nextAfter, lineAt};
-ghost use Rattle.quote_lines.specs.Tables.{weight, wordsAt, WordsIn, Weighed, TagAt, Table, LinesRead, lineIn, Tabled, NextOpener, linesBehind, PastBackslashes};
+ghost use Rattle.quote_lines.specs.Tables.{wordsAt, WordsIn, Weighed, TagAt, Table, LinesRead, lineIn, Tabled, NextOpener, linesBehind, PastBackslashes};
 
 // A place in the text, the place of the next `]`, the line there, and how many tags stand in the table.
 pub struct Reading {
@@ -236,14 +236,14 @@ fn read_tag(s: &[u8], numbers: &mut [u32], t: usize, from: Reading) -> Reading
     }
 }
 
-// What the attribution of the tag at p weighs.
-fn weight_at(s: &[u8], numbers: &[u32], p: usize) -> u32
-    requires { ⌜ (length (now s) ≤ 262144) × ((p + 3 ≤ length (now numbers)) × WordsIn (now s) (now numbers) p) ⌝ }
-    ensures { λ r. ⌜ r ≡ weight (bare (wordsAt (now (s .entry)) (now (numbers .entry)) p)) ⌝ }
+// The attribution of the tag whose numbers stand at p.
+fn words_at<'a>(s: &'a [u8], numbers: &[u32], p: usize) -> &'a [u8]
+    requires { ⌜ (p + 3 ≤ length (now numbers)) × WordsIn (now s) (now numbers) p ⌝ }
+    ensures { λ r. ⌜ (now r ≡ wordsAt (now (s .entry)) (now (numbers .entry)) p) × (length (now r) ≤ length (now (s .entry))) ⌝ }
 {
     let a = numbers[p + 1] as usize;
     let e = a + numbers[p + 2] as usize;
-    bare_weight(&s[a..e]) as u32
+    &s[a..e]
 }
 
 // Writes behind the numbers of the tags what their attributions weigh.
@@ -253,8 +253,8 @@ fn put_weights(s: &[u8], numbers: &mut [u32], t: usize, count: usize)
 {
     let mut i: usize = 0;
     while i < count {
-        let here = weight_at(s, numbers, t + 3 * i);
-        numbers[t + 3 * count + i] = here;
+        let words = words_at(s, numbers, t + 3 * i);
+        numbers[t + 3 * count + i] = bare_weight(words) as u32;
         i += 1;
     }
 }
@@ -298,26 +298,6 @@ pub fn read_lines(text: &[u8], work: &mut [u8], numbers: &mut [u32]) -> Lines
     Lines { size, count }
 }
 
-// Whether the tag at p has an attribution that is the same without backslashes.
-fn has_attribution(s: &[u8], numbers: &[u32], p: usize, attribution: &[u8]) -> bool
-    requires { ⌜ (p + 3 ≤ length (now numbers)) × WordsIn (now s) (now numbers) p ⌝ }
-    ensures { λ r. ⌜ r ≡ same (bare (wordsAt (now (s .entry)) (now (numbers .entry)) p)) (bare (now (attribution .entry))) ⌝ }
-{
-    let a = numbers[p + 1] as usize;
-    let e = a + numbers[p + 2] as usize;
-    same_bare(&s[a..e], attribution)
-}
-
-// Whether the tag at p has just this attribution, with its backslashes.
-fn has_words(s: &[u8], numbers: &[u32], p: usize, attribution: &[u8]) -> bool
-    requires { ⌜ (p + 3 ≤ length (now numbers)) × WordsIn (now s) (now numbers) p ⌝ }
-    ensures { λ r. ⌜ (r ≡ true → wordsAt (now (s .entry)) (now (numbers .entry)) p ≡ now (attribution .entry)) ⌝ }
-{
-    let a = numbers[p + 1] as usize;
-    let e = a + numbers[p + 2] as usize;
-    same_text(&s[a..e], attribution)
-}
-
 // The first tag from `next` on with this attribution; where there is none, the number of tags or, if that is greater, `next`.
 fn find_tag(
     s: &[u8],
@@ -332,7 +312,7 @@ fn find_tag(
 {
     // A quote that marks left as it was has just the attribution of tag `next`.
     if next < count {
-        if has_words(s, numbers, t + 3 * next, attribution) {
+        if same_text(words_at(s, numbers, t + 3 * next), attribution) {
             return next;
         }
     }
@@ -345,7 +325,7 @@ fn find_tag(
         if count <= i {
             return i;
         }
-        if has_attribution(s, numbers, t + 3 * i, attribution) {
+        if same_bare(words_at(s, numbers, t + 3 * i), attribution) {
             return i;
         }
         i += 1;

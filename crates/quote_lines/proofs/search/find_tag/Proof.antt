@@ -14,21 +14,24 @@ Inv-loop s numbers t count next attribution weight w i₀ i = Finding (tags 1 0 
 abbrev μ-loop : tie.MeasureT-loop
 μ-loop s numbers t count next attribution weight w i₀ i = count - i
 
-mul-has-words : tie.Need-mul-has-words Inv-loop μ-loop
-mul-has-words c = search needs
+mul-words-at : tie.Need-mul-words-at Inv-loop μ-loop
+mul-words-at c = search needs
 
-add-has-words : tie.Need-add-has-words Inv-loop μ-loop
-add-has-words c = search needs
+add-words-at : tie.Need-add-words-at Inv-loop μ-loop
+add-words-at c = search needs
 
-has-words-requires : tie.Need-has-words-requires Inv-loop μ-loop
-has-words-requires c κs = let a = c .before .before .before .before in (omega (arith, a .pre .0 .room), a .pre .0 .each (a .args .next) (omega arith) .inside)
+words-at-requires : tie.Need-words-at-requires Inv-loop μ-loop
+words-at-requires c κs = let a = c .before .before .before .before in (omega (arith, a .pre .0 .room), a .pre .0 .each (a .args .next) (omega arith) .inside)
+
+same-text-requires : tie.Need-same-text-requires Inv-loop μ-loop
+same-text-requires c κs = search needs
 
 returns : tie.Need-returns Inv-loop μ-loop
 returns c =
-    let a = c .before .before .before .before .before .before in
+    let a = c .before .before .before .before .before .before .before in
     let g = a .pre .0 .each (a .args .next) (omega arith) in
-    let x = c .before .has-words .ensures (c .if2 .taken) in
-    finding-here _ _ _ _ (finding _ _ _) (omega (arith, a .pre .0 .all)) (sym x ∙ g .words-are) (same-self _) refl
+    let x = c .before .same-text .ensures (c .if2 .taken) in
+    finding-here _ _ _ _ (finding _ _ _) (omega (arith, a .pre .0 .all)) (sym x ∙ c .before .before .words-at .ensures .0 ∙ g .words-are) (same-self _) refl
 
 bare-weight-requires : tie.Need-bare-weight-requires Inv-loop μ-loop
 bare-weight-requires c κs = search needs
@@ -73,34 +76,37 @@ returns-2 c =
     let f = finding-weight (a .pre .0) _ _ (c .before .before .before .before .before .before .bare-weight .ensures .0) (c .before .before .before .before .before .shorter .ensures) (c .before .before .before .before .before .before .before .before .before .shared-slice-known2 .given) (c .before .before .before .before .loop .inv) (omega arith) (r .ensures) in
     finding-end _ _ _ _ f (omega (arith, a .pre .0 .all))
 
-mul-has-attribution : tie.Need-mul-has-attribution Inv-loop μ-loop
-mul-has-attribution c = search needs
+mul-words-at-2 : tie.Need-mul-words-at-2 Inv-loop μ-loop
+mul-words-at-2 c = search needs
 
-add-has-attribution : tie.Need-add-has-attribution Inv-loop μ-loop
-add-has-attribution c = search needs
+add-words-at-2 : tie.Need-add-words-at-2 Inv-loop μ-loop
+add-words-at-2 c = search needs
 
-has-attribution-requires : tie.Need-has-attribution-requires Inv-loop μ-loop
-has-attribution-requires c κs = let a = c .before .before .before .before .before .before .before .before .before .before .before in let r = c .before .next-number in (omega (arith, a .pre .0 .room), a .pre .0 .each (r .result) (omega arith) .inside)
+words-at-requires-2 : tie.Need-words-at-requires-2 Inv-loop μ-loop
+words-at-requires-2 c κs = let a = c .before .before .before .before .before .before .before .before .before .before .before in let r = c .before .next-number in (omega (arith, a .pre .0 .room), a .pre .0 .each (r .result) (omega arith) .inside)
+
+same-bare-requires : tie.Need-same-bare-requires Inv-loop μ-loop
+same-bare-requires c κs = search needs
 
 returns-3 : tie.Need-returns-3 Inv-loop μ-loop
 returns-3 c =
-    let a = c .before .before .before .before .before .before .before .before .before .before .before .before .before in
-    let r = c .before .before .before .next-number in
-    let f = finding-weight (a .pre .0) _ _ (c .before .before .before .before .before .before .before .before .bare-weight .ensures .0) (c .before .before .before .before .before .before .before .shorter .ensures) (c .before .before .before .before .before .before .before .before .before .before .before .shared-slice-known2 .given) (c .before .before .before .before .before .before .loop .inv) (omega arith) (r .ensures) in
-    finding-here _ _ _ _ f (omega (arith, a .pre .0 .all)) (a .pre .0 .each (r .result) (omega arith) .words-are) (c .before .has-attribution .ensures) (c .if4 .taken)
+    let a = c .before .before .before .before .before .before .before .before .before .before .before .before .before .before in
+    let r = c .before .before .before .before .next-number in
+    let f = finding-weight (a .pre .0) _ _ (c .before .before .before .before .before .before .before .before .before .bare-weight .ensures .0) (c .before .before .before .before .before .before .before .before .shorter .ensures) (c .before .before .before .before .before .before .before .before .before .before .before .before .shared-slice-known2 .given) (c .before .before .before .before .before .before .before .loop .inv) (omega arith) (r .ensures) in
+    finding-here _ _ _ _ f (omega (arith, a .pre .0 .all)) (c .before .before .words-at2 .ensures .0 ∙ a .pre .0 .each (r .result) (omega arith) .words-are) (c .before .same-bare .ensures) (c .if4 .taken)
 
 add-i : tie.Need-add-i Inv-loop μ-loop
 add-i c = search needs
 
 loop-less : tie.Need-loop-less Inv-loop μ-loop
-loop-less c = omega (arith, c .before .before .before .next-number .ensures)
+loop-less c = omega (arith, c .before .before .before .before .next-number .ensures)
 
 loop-again : tie.Need-loop-again Inv-loop μ-loop
 loop-again c =
-    let a = c .before .before .before .before .before .before .before .before .before .before .before .before .before in
-    let r = c .before .before .before .next-number in
-    let f = finding-weight (a .pre .0) _ _ (c .before .before .before .before .before .before .before .before .bare-weight .ensures .0) (c .before .before .before .before .before .before .before .shorter .ensures) (c .before .before .before .before .before .before .before .before .before .before .before .shared-slice-known2 .given) (c .before .before .before .before .before .before .loop .inv) (omega arith) (r .ensures) in
-    finding-on _ _ _ _ f (omega (arith, a .pre .0 .all)) (a .pre .0 .each (r .result) (omega arith) .words-are) (c .before .has-attribution .ensures) (c .if4 .left)
+    let a = c .before .before .before .before .before .before .before .before .before .before .before .before .before .before in
+    let r = c .before .before .before .before .next-number in
+    let f = finding-weight (a .pre .0) _ _ (c .before .before .before .before .before .before .before .before .before .bare-weight .ensures .0) (c .before .before .before .before .before .before .before .before .shorter .ensures) (c .before .before .before .before .before .before .before .before .before .before .before .before .shared-slice-known2 .given) (c .before .before .before .before .before .before .before .loop .inv) (omega arith) (r .ensures) in
+    finding-on _ _ _ _ f (omega (arith, a .pre .0 .all)) (c .before .before .words-at2 .ensures .0 ∙ a .pre .0 .each (r .result) (omega arith) .words-are) (c .before .same-bare .ensures) (c .if4 .left)
 
 returns-4 : tie.Need-returns-4 Inv-loop μ-loop
 returns-4 c = let a = c .before .before .before .before .before .before .before .before in finding-end _ _ _ _ (c .before .loop .inv) (omega (arith, a .pre .0 .all))
@@ -111,9 +117,10 @@ find-tag-spec =
     (tie.spec
     Inv-loop
     μ-loop
-    mul-has-words
-    add-has-words
-    has-words-requires
+    mul-words-at
+    add-words-at
+    words-at-requires
+    same-text-requires
     returns
     bare-weight-requires
     shorter-requires
@@ -128,9 +135,10 @@ find-tag-spec =
     part-next-number-end
     next-number-requires
     returns-2
-    mul-has-attribution
-    add-has-attribution
-    has-attribution-requires
+    mul-words-at-2
+    add-words-at-2
+    words-at-requires-2
+    same-bare-requires
     returns-3
     add-i
     loop-less

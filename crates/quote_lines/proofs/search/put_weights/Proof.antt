@@ -1,6 +1,10 @@
 use borrow.Author.Needs.{needs}
 use native.Mathlib.Omega.{arith}
-use Prim.Native.Nat.{_+_, _-_, _*_}
+use mathlib.Core.Path.{ap, _∙_}
+use Prim.Native.Nat.{ℕ, _+_, _-_, _*_}
+use mathlib.Core.List.{List}
+use Rattle.quote_lines.specs.Lines.{bare}
+use Rattle.quote_lines.specs.Tables.{weight}
 use Rattle.quote_lines.proofs.Tabling.{Weighing, weighing, weighing-on, weighing-end, words-in-kept}
 use Rattle.quote_lines.proofs.search.put_weights.Statement.{statement}
 use Rattle.quote_lines.proofs.search.put_weights.Tie as tie
@@ -14,17 +18,23 @@ abbrev μ-loop : tie.MeasureT-loop
 loop-holds : tie.Need-loop-holds Inv-loop μ-loop
 loop-holds c = weighing _ _ _ _
 
-mul-weight-at : tie.Need-mul-weight-at Inv-loop μ-loop
-mul-weight-at c = search needs
+mul-words-at : tie.Need-mul-words-at Inv-loop μ-loop
+mul-words-at c = search needs
 
-add-weight-at : tie.Need-add-weight-at Inv-loop μ-loop
-add-weight-at c = search needs
+add-words-at : tie.Need-add-words-at Inv-loop μ-loop
+add-words-at c = search needs
 
-weight-at-requires : tie.Need-weight-at-requires Inv-loop μ-loop
-weight-at-requires c κs =
+words-at-requires : tie.Need-words-at-requires Inv-loop μ-loop
+words-at-requires c κs =
     let a = c .before .before .before .before .before in
     let l = c .before .before .loop in
-    (a .pre .0 .0, (omega (arith, l .inv .long), words-in-kept (a .args .s .now) (a .args .numbers .now) (l .numbers) (a .args .t + 3 * a .args .count) (a .args .t + 3 * l .i) (l .inv .kept) (omega arith) (a .pre .1 (l .i) (omega arith))))
+    (omega (arith, l .inv .long), words-in-kept (a .args .s .now) (a .args .numbers .now) (l .numbers) (a .args .t + 3 * a .args .count) (a .args .t + 3 * l .i) (l .inv .kept) (omega arith) (a .pre .1 (l .i) (omega arith)))
+
+bare-weight-requires : tie.Need-bare-weight-requires Inv-loop μ-loop
+bare-weight-requires c κs = omega (arith, c .words-at .ensures .1, c .before .before .before .before .before .before .pre .0 .0)
+
+cast-numbers : tie.Need-cast-numbers Inv-loop μ-loop
+cast-numbers c = omega (arith, c .bare-weight .ensures .1, c .before .words-at .ensures .1, c .before .before .before .before .before .before .before .pre .0 .0)
 
 mul-numbers : tie.Need-mul-numbers Inv-loop μ-loop
 mul-numbers c = search needs
@@ -48,7 +58,7 @@ loop-less : tie.Need-loop-less Inv-loop μ-loop
 loop-less c = search needs
 
 loop-again : tie.Need-loop-again Inv-loop μ-loop
-loop-again c = weighing-on (c .before .before .before .loop .inv) (omega arith) (c .before .before .before .before .before .before .pre .0 .1) (c .weight-at .ensures)
+loop-again c = weighing-on (c .before .before .before .before .loop .inv) (omega arith) (c .before .before .before .before .before .before .before .pre .0 .1) (c .bare-weight .ensures .0 ∙ ap (λ (y : List ℕ). weight (bare y)) (c .before .words-at .ensures .0))
 
 same-length : tie.Need-same-length Inv-loop μ-loop
 same-length c = c .before .loop .inv .long
@@ -63,9 +73,11 @@ put-weights-spec =
     Inv-loop
     μ-loop
     loop-holds
-    mul-weight-at
-    add-weight-at
-    weight-at-requires
+    mul-words-at
+    add-words-at
+    words-at-requires
+    bare-weight-requires
+    cast-numbers
     mul-numbers
     add-numbers
     add-numbers-2
