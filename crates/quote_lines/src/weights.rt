@@ -48,6 +48,11 @@ pub fn next_number(numbers: &[u32], at: usize, n: u32) -> usize
     requires { ⌜ at ≤ length (now numbers) ⌝ }
     ensures { λ r. ⌜ r ≡ at + toFirst (λ x. eqb x n) (drop at (now (numbers .entry))) ⌝ }
 {
+    if at < numbers.len() {
+        if numbers[at] == n {
+            return at;
+        }
+    }
     let mut i = at;
     while none_in_16(numbers, i, n) {
         i += 16;

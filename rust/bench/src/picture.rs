@@ -38,7 +38,8 @@ impl Sheet {
     }
 
     fn dot(&mut self, x: f64, y: f64, fill: &str, stroke: &str) {
-        writeln!(self.body, r#"<circle cx="{x:.1}" cy="{y:.1}" r="5" fill="{fill}" stroke="{stroke}" stroke-width="1.6"/>"#).expect("a String takes all");
+        writeln!(self.body, r#"<circle cx="{x:.1}" cy="{y:.1}" r="5" fill="{fill}" stroke="{stroke}" stroke-width="1.6"/>"#)
+            .expect("a String takes all");
     }
 }
 
@@ -89,9 +90,14 @@ fn growth(sheet: &mut Sheet, runs: &Runs) {
     sheet.text(378.0, legend, "start", "label", "Rust original, at the longest post that it was given");
     let top = legend + 26.0;
     let bottom = top + runs.hard.len() as f64 * ROW + 4.0;
-    for (tick, words, class) in
-        [(1.0, "1", "grid"), (2.0, "2: linear", "grid"), (2.5, "", "bound"), (4.0, "4: quadratic", "grid"), (4.5, "", "bound"), (8.0, "8 and more", "grid")]
-    {
+    for (tick, words, class) in [
+        (1.0, "1", "grid"),
+        (2.0, "2: linear", "grid"),
+        (2.5, "", "bound"),
+        (4.0, "4: quadratic", "grid"),
+        (4.5, "", "bound"),
+        (8.0, "8 and more", "grid"),
+    ] {
         let x = log(tick, low, high);
         sheet.line(x, top, x, bottom, class);
         if words.is_empty() {

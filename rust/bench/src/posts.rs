@@ -144,7 +144,8 @@ pub const FAMILIES: &[Family] = &[
     },
     Family {
         name: "line search, one weight",
-        shape: "`[quote=a[/b]NOO][/quote]`: no tag of the post has the attribution `aNOO`, and all, `a[/b`, have its length and the same sum of bytes",
+        shape:
+            "`[quote=a[/b]NOO][/quote]`: no tag of the post has the attribution `aNOO`, and all, `a[/b`, have its length and the same sum of bytes",
         make: |n| again("[quote=a[/b]NOO][/quote]", n),
         search: true,
     },
@@ -153,9 +154,7 @@ pub const FAMILIES: &[Family] = &[
     }),
     family("quotes 64 deep", "64 `[quote]`, a line, 64 `[/quote]`", |n| nested("[quote]", "a line\n", "[/quote]", 64, n)),
     family("lists 64 deep", "64 `[list][*]`, a line, 64 `[/list]`", |n| nested("[list][*]", "a line\n", "[/list]", 64, n)),
-    family("lines in quotes 8 deep", "8 `[quote]`, then lines of one letter", |n| {
-        cut(["[quote]".repeat(8), "a\n".repeat(n / 2)].concat(), n)
-    }),
+    family("lines in quotes 8 deep", "8 `[quote]`, then lines of one letter", |n| cut(["[quote]".repeat(8), "a\n".repeat(n / 2)].concat(), n)),
     family("one long attribution", "`[quote=` and words to the last byte, `]`", |n| {
         cut(["[quote=", &"ab ".repeat(n / 3), "]"].concat(), n - 1).into_iter().chain([b']']).collect()
     }),

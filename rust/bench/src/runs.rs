@@ -10,8 +10,9 @@ use std::{hint::black_box, time::Duration};
 
 /// How much time the least of a contender's samples is looked for: longer than a neighbour on the machine disturbs most samples.
 const EACH: Duration = Duration::from_millis(400);
-/// In how many lots of memory a hard post is timed: one may be slower for all of its samples.
-const LOTS: u32 = 3;
+/// In how many lots of memory a hard post is timed: one may be slower for all of its samples. All families are timed in one lot before the next, and half
+/// of the lots come before the other contenders and half behind them, minutes later: what disturbs the machine for a while spoils a few lots only.
+const LOTS: u32 = 6;
 /// A contender that takes longer than a quarter of this for a post is not given a longer one.
 const PATIENCE: Duration = Duration::from_millis(600);
 
@@ -134,40 +135,48 @@ fn beside(family: &Family, mut call: impl FnMut(&[u8])) -> Beside {
     }
 }
 
-fn hard(family: &'static Family) -> Hard {
-    let posts = [MOST / 4, MOST / 2, MOST].map(family.make);
-    let mut lent = posts.each_ref().map(|post| Lent::for_post(post));
-    let number = lent[2].convert(&posts[2]);
-    let mut least = [f64::INFINITY; 3];
-    for _ in 0..LOTS {
-        lent = posts.each_ref().map(|post| Lent::for_post(post));
-        let [a, b, c] = &mut lent;
-        let times = time::in_turns_of_a_lot(
-            LOTS,
-            EACH,
-            &mut [
-                &mut || {
-                    black_box(a.convert(black_box(&posts[0])));
-                },
-                &mut || {
-                    black_box(b.convert(black_box(&posts[1])));
-                },
-                &mut || {
-                    black_box(c.convert(black_box(&posts[2])));
-                },
-            ],
-        );
-        least = [0, 1, 2].map(|i| least[i].min(times[i]));
+const LENGTHS: [usize; 3] = [MOST / 4, MOST / 2, MOST];
+
+/// Times the proved converter on posts of all families, in so many lots of memory; the least counts.
+fn in_lots(lots: u32, least: &mut [[f64; 3]]) {
+    for _ in 0..lots {
+        for (family, least) in posts::FAMILIES.iter().zip(&mut *least) {
+            let posts = LENGTHS.map(family.make);
+            let [mut a, mut b, mut c] = posts.each_ref().map(|post| Lent::for_post(post));
+            let times = time::in_turns_of_a_lot(
+                EACH / 3,
+                &mut [
+                    &mut || {
+                        black_box(a.convert(black_box(&posts[0])));
+                    },
+                    &mut || {
+                        black_box(b.convert(black_box(&posts[1])));
+                    },
+                    &mut || {
+                        black_box(c.convert(black_box(&posts[2])));
+                    },
+                ],
+            );
+            for (least, time) in least.iter_mut().zip(times) {
+                *least = least.min(time);
+            }
+        }
     }
-    let c = &lent[2];
-    let mut cells = (vec![0; c.out.len()], vec![0; c.out.len()]);
-    let memcpy = (number == 0).then(|| time::in_turns(EACH / 4, &mut [&mut || copy(black_box(c), &mut cells)])[0]);
+}
+
+/// The other contenders on a family's posts; the proved converter's times come later.
+fn hard(family: &'static Family) -> Hard {
+    let post = (family.make)(MOST);
+    let mut lent = Lent::for_post(&post);
+    let number = lent.convert(&post);
+    let mut cells = (vec![0; lent.out.len()], vec![0; lent.out.len()]);
+    let memcpy = (number == 0).then(|| time::in_turns(EACH / 4, &mut [&mut || copy(black_box(&lent), &mut cells)])[0]);
     let short = (family.make)(4096);
     agree(family.name, &short, &mut Lent::for_post(&short));
     Hard {
         family,
         number,
-        carve: least,
+        carve: [f64::INFINITY; 3],
         memcpy,
         original: beside(family, |post| {
             black_box(oracle::post(string(post)));
@@ -180,15 +189,28 @@ fn hard(family: &'static Family) -> Hard {
 pub fn all() -> Runs {
     let forum: Vec<Forum> = [1024, 65_536, MOST].map(forum).into_iter().collect();
     for f in &forum {
-        eprintln!("forum-like, {} bytes: {:.2} ns a byte, {:.0} times the original, {:.2} times cmark ({:.2} in a row)", f.n, f.carve / f.n as f64, f.original / f.carve, f.cmark / f.carve, f.in_a_row);
+        eprintln!(
+            "forum-like, {} bytes: {:.2} ns a byte, {:.0} times the original, {:.2} times cmark ({:.2} in a row)",
+            f.n,
+            f.carve / f.n as f64,
+            f.original / f.carve,
+            f.cmark / f.carve,
+            f.in_a_row
+        );
     }
-    let hard = posts::FAMILIES
+    let mut least = vec![[f64::INFINITY; 3]; posts::FAMILIES.len()];
+    in_lots(LOTS / 2, &mut least);
+    let mut hard: Vec<Hard> = posts::FAMILIES
         .iter()
         .map(|family| {
-            let h = hard(family);
-            eprintln!("{}: answer {}, {:.2} ns a byte, growth {:.2}", family.name, h.number, h.carve[2] / MOST as f64, h.growth());
-            h
+            eprintln!("{}, the other contenders", family.name);
+            hard(family)
         })
         .collect();
+    in_lots(LOTS - LOTS / 2, &mut least);
+    for (h, least) in hard.iter_mut().zip(least) {
+        h.carve = least;
+        eprintln!("{}: answer {}, {:.2} ns a byte, growth {:.2}", h.family.name, h.number, h.carve[2] / MOST as f64, h.growth());
+    }
     Runs { forum, hard }
 }

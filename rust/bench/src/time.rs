@@ -52,9 +52,9 @@ pub fn in_turns(each: Duration, contenders: &mut [&mut dyn FnMut()]) -> Vec<f64>
     by_samples(Duration::from_micros(200), each, SAMPLES, contenders)
 }
 
-/// The same for one of so many lots: its share of the samples.
-pub fn in_turns_of_a_lot(lots: u32, each: Duration, contenders: &mut [&mut dyn FnMut()]) -> Vec<f64> {
-    by_samples(Duration::from_micros(200), each / lots, SAMPLES / lots, contenders)
+/// The same for one lot of several: a part of the samples.
+pub fn in_turns_of_a_lot(each: Duration, contenders: &mut [&mut dyn FnMut()]) -> Vec<f64> {
+    by_samples(Duration::from_micros(200), each, SAMPLES / 3, contenders)
 }
 
 /// The same by samples of two milliseconds: calls in a row, for which what another contender left in the caches is a small part.
