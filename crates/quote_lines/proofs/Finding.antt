@@ -131,7 +131,7 @@ module _ {s ns : List ℕ} {t count : ℕ} (w : Table s ns t count) (next : ℕ)
     weight-there : (j : ℕ) → j < count → getD weights j 0 ≡ getD ns (t + 3 * count + j) 0
     weight-there j lt = getD-take (t + 3 * count + count - (t + 3 * count)) (drop (t + 3 * count) ns) j 0 (omega (arith, count-is)) ∙ getD-drop (t + 3 * count) ns j 0
 
-    pub weight-within : r ≤ count
+    weight-within : r ≤ count
     weight-within = let n = first-within (λ x. eqb x least) (drop i weights) in let m = length-drop i weights in omega (arith, n, m, many, q)
 
     pub finding-weight : Finding (tags 1 0 s) next a r

@@ -43,7 +43,7 @@ fn none_in_16(numbers: &[u32], i: usize, n: u32) -> bool
     !stands
 }
 
-// The place of the first number n from a place on, or the end.
+// The place of the first number n from a place on, or the end. The first is asked alone: where all are n, that is the whole search.
 pub fn next_number(numbers: &[u32], at: usize, n: u32) -> usize
     requires { ⌜ at ≤ length (now numbers) ⌝ }
     ensures { λ r. ⌜ r ≡ at + toFirst (λ x. eqb x n) (drop at (now (numbers .entry))) ⌝ }
