@@ -21,13 +21,21 @@ fn halve(numbers: &mut [u32], n: usize)
     }
 }
 
+// Leaves the first n cells as text and origins, with zeros behind.
+pub fn leave_text(n: usize, out: &mut [u8], origins: &mut [u32])
+    requires { ⌜ (n ≤ length (now out)) × (n ≤ length (now origins)) ⌝ }
+    ensures { λ _. ⌜ LaidOut (take n (cells (now (out .entry)) (now (origins .entry)))) (length (now (out .entry))) (length (now (origins .entry))) (now (out .exit)) (now (origins .exit)) ⌝ }
+{
+    halve(origins, n);
+    zero8(out, TextAt(n));
+    zero32(origins, TextAt(n));
+}
+
 // Leaves the first n cells as text and origins, and the first `count` span numbers.
 pub fn leave(n: usize, count: usize, out: &mut [u8], origins: &mut [u32], spans: &mut [u32])
     requires { ⌜ ((n ≤ length (now out)) × (n ≤ length (now origins))) × (count ≤ length (now spans)) ⌝ }
     ensures { λ _. ⌜ LaidOut (take n (cells (now (out .entry)) (now (origins .entry)))) (length (now (out .entry))) (length (now (origins .entry))) (now (out .exit)) (now (origins .exit)) × (now (spans .exit) ≡ padded (length (now (spans .entry))) (take count (now (spans .entry)))) ⌝ }
 {
-    halve(origins, n);
-    zero8(out, TextAt(n));
-    zero32(origins, TextAt(n));
+    leave_text(n, out, origins);
     zero32(spans, TextAt(count));
 }

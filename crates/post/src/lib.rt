@@ -8,14 +8,19 @@ use lending::lent::check;
 use list_steps::pass::FULL;
 use losses::Loss;
 use losses::fill;
+use marks::leave::leave_text;
 use marks::pass::marks_pass;
 use post_steps::list::list_text;
+use post_steps::plain::no_lists;
+use post_steps::plain::no_quotes;
 use post_steps::quote::quote_text;
 use quote_lines::search::read_lines;
 use quote_losses::loss::Listed;
 use quote_losses::loss::list_losses;
 use quotes::refusal_of;
+use text::PostAt;
 use text::TextAt;
+use text::write::copy;
 use text::write::lay_nothing;
 use text::zero::zero8;
 ghost use mathlib.Core.Path.{_≡_};
@@ -76,6 +81,39 @@ fn write_lists(
     Posted::Done(r, count, bytes)
 }
 
+// Lists of the n cells at the front of out and origins, which quotes leaves as they are; the losses are listed. Where lists does too, they are laid
+// out where they stand.
+fn write_unquoted(
+    n: usize,
+    losses: Counts,
+    work: &mut [u8],
+    numbers: &mut [u32],
+    out: &mut [u8],
+    origins: &mut [u32],
+    loss_bytes: &mut [u8],
+) -> Posted
+    requires { ⌜ (((n ≤ length (now out)) × ((length (now out) ≤ 16777216) × (length (now out) ≤ length (now origins)))) × ((3 * length (now out) ≤ length (now work)) × ((3 * length (now out) ≤ length (now numbers)) × (length (now numbers) ≤ 4294967295)))) × (losses .bytes ≤ length (now «loss_bytes»)) ⌝ }
+    ensures { λ r. ⌜ Ends (lists (take n (cells (now (out .entry)) (now (origins .entry))))) (take (losses .bytes) (now («loss_bytes» .entry))) (length (now (out .entry))) (length (now (origins .entry))) (length (now («loss_bytes» .entry))) (listing (take n (cells (now (out .entry)) (now (origins .entry)))) (length (now (out .entry))) (losses .losses) (losses .bytes)) r (now (out .exit)) (now (origins .exit)) (now («loss_bytes» .exit)) ⌝ }
+{
+    if no_lists(&out[..n]) {
+        let count = losses.losses;
+        let bytes = losses.bytes;
+        leave_text(n, out, origins);
+        zero8(loss_bytes, TextAt(bytes));
+        return Posted::Done(n, count, bytes);
+    }
+    copy(
+        out,
+        origins,
+        PostAt(0),
+        PostAt(n),
+        work,
+        numbers,
+        TextAt(out.len()),
+    );
+    write_lists(n, losses, work, numbers, out, origins, loss_bytes)
+}
+
 // Quotes of the n cells at the front of out and origins, which are within quotes' limits, then lists; the losses are listed.
 fn write_quotes(
     n: usize,
@@ -89,6 +127,9 @@ fn write_quotes(
     requires { ⌜ ((((n ≤ length (now out)) × ((length (now out) ≤ 16777216) × (length (now out) ≤ length (now origins)))) × ((3 * length (now out) ≤ length (now work)) × ((3 * length (now out) ≤ length (now numbers)) × (length (now numbers) ≤ 4294967295)))) × (losses .bytes ≤ length (now «loss_bytes»))) × (tooDeep (take n (cells (now out) (now origins))) ≡ false) ⌝ }
     ensures { λ r. ⌜ Ends (lists (quotes caption (take n (cells (now (out .entry)) (now (origins .entry)))))) (take (losses .bytes) (now («loss_bytes» .entry))) (length (now (out .entry))) (length (now (origins .entry))) (length (now («loss_bytes» .entry))) (quoting (take n (cells (now (out .entry)) (now (origins .entry)))) (length (now (out .entry))) (losses .losses) (losses .bytes)) r (now (out .exit)) (now (origins .exit)) (now («loss_bytes» .exit)) ⌝ }
 {
+    if no_quotes(&out[..n]) {
+        return write_unquoted(n, losses, work, numbers, out, origins, loss_bytes);
+    }
     let q = quote_text(n, work, numbers, out, origins);
     if out.len() < q {
         return refuse(Refusal::NoSpace, out, origins, loss_bytes);

@@ -1,11 +1,11 @@
 -- Laws of the passes over work memory. Assumes nothing.
-use mathlib.Core.Path.{_≡_, refl, sym, ap, _∙_}
-use mathlib.Core.List.{List, []}
+use mathlib.Core.Path.{_≡_, refl, sym, ap, subst, _∙_}
+use mathlib.Core.List.{List, _++_}
 use Prim.Native.Nat.{ℕ, _+_, _-_, _≤_, _<_}
 use native.Mathlib.Omega.{arith}
 use native.Mathlib.Decide.{decLe}
-use lib.ListN.{length, take, drop, getD, set, length-drop}
-use lib.Seq.{length-take-le, getD-drop, take-suc, take-suc-set, take-take, drop-set-lt, drop-drop}
+use lib.ListN.{length, take, drop, getD, set, length-append, length-drop}
+use lib.Seq.{length-take-le, getD-drop, take-suc, take-suc-set, take-take, drop-set-lt, drop-drop, drop-append-seam}
 use native.Mathlib.Numerals.{add-one}
 use Rattle.text.specs.Cells.{Cell, cells, part}
 use Rattle.text.specs.Writes.{Holds, Appends, LaidOut}
@@ -25,19 +25,29 @@ part-within : (a e k : ℕ) (v : List Cell) → e ≤ k → part a e (take k v) 
 unfolding part
 part-within a e k v h = ap (drop a) (take-take e k v h)
 
--- ---- copying to the front
+-- ---- copying
 
-nothing-held : (v : List Cell) → Holds v 0 []
-nothing-held v = record { end = λ h. refl; text = λ h. refl; full = λ h. absurd (omega arith) }
+taken-held : (m : ℕ) (w : List Cell) → m ≤ length w → Holds w m (take m w)
+taken-held m w h = let l = length-take-le m w h in record { end = λ g. sym l; text = λ g. refl; full = λ g. absurd (omega arith) }
 
--- the first n cells of v have been copied to the front
+-- the first n cells of v have been copied to place m
+pub copied-at : (m : ℕ) (v w : List Cell) (bs ns : List ℕ) (n r : ℕ) → n ≤ length v → m ≤ length w → m + n ≤ length bs → m + n ≤ length ns → Appends w m (cells bs ns) r (part 0 n v)
+    → part m (m + n) (cells bs ns) ≡ take n v
+unfolding part
+copied-at m v w bs ns n r h hw hb hn a =
+    let room = cells-le bs ns (m + n) hb hn in
+    let t : Holds (cells bs ns) r (take m w ++ take n v) = a .step (take m w) (taken-held m w hw) in
+    let l = length-take-le n v h in
+    let k = length-take-le m w hw in
+    let s = length-append (take m w) (take n v) in
+    let z : m + n ≡ r = (let e = t .end (omega arith) in omega arith) in
+    ap (λ (e : ℕ). drop m (take e (cells bs ns))) z ∙ ap (drop m) (t .text (omega arith)) ∙ ap (λ (e : ℕ). drop e (take m w ++ take n v)) (sym k) ∙ drop-append-seam (take m w) (take n v)
+
+-- to the front
 pub copied-front : (v w : List Cell) (bs ns : List ℕ) (n r : ℕ) → n ≤ length v → n ≤ length bs → n ≤ length ns → Appends w 0 (cells bs ns) r (part 0 n v) → take n (cells bs ns) ≡ take n v
 copied-front v w bs ns n r h hb hn a =
-    let room = cells-le bs ns n hb hn in
-    let t : Holds (cells bs ns) r (take n v) = rw (part-front n v) at (a .step [] (nothing-held w)) in
-    let l = length-take-le n v h in
-    let z : n ≡ r = (let e = t .end (omega arith) in omega arith) in
-    ap (λ (e : ℕ). take e (cells bs ns)) z ∙ t .text (omega arith)
+    let z : n ≡ 0 + n = omega arith in
+    sym (part-front n (cells bs ns)) ∙ ap (λ (e : ℕ). part 0 e (cells bs ns)) z ∙ copied-at 0 v w bs ns n r h (omega arith) (omega arith) (omega arith) a
 
 -- ---- moving to the front
 
@@ -99,3 +109,12 @@ module _ (m k base r : ℕ) (x : List Cell) (bs ns : List ℕ) (p : Passed m x b
         fits = λ h. (let e = p .done h .0 in omega arith, rw (p .done h .1) at laid);
         full = λ h. absurd (let e = p .full h in omega arith);
       }
+
+-- a text that lists leaves as it is, laid out as it is
+pub same-lays : {m k n : ℕ} {out plain : List ℕ} (x : List Cell) → length x ≡ n → n ≤ m → (lists x ≡ x) × (listsNeed x ≡ length x) → LaidOut x m k out plain
+    → Lays m k (listsNeed x) (lists x) n out plain
+same-lays {m} {k} {n} {out} {plain} x size near same laid =
+    record {
+      fits = λ h. subst (λ (y : List Cell). (n ≡ length y) × LaidOut y m k out plain) (sym (same .0)) (sym size, laid);
+      full = λ h. absurd (omega (arith, h, same .1, size));
+    }

@@ -138,14 +138,18 @@ module _ (a b : ℕ) (x : List ℕ) where
   not-open-by h ec ed ee = rw (ec, ed, ee) h
 
 module _ (x : List ℕ) where
+  -- a word with the letter behind its bracket
+  pub word-by : (l b : ℕ) → bitOr l 32 ≡ l + 32 → bitOr (l + 32) 32 ≡ l + 32 → (w : List ℕ) → NoOpener (l + 32) b x → begins (91 ∷ (l + 32) ∷ w) x ≡ false
+  word-by l b capital same w h = word-not x l capital same 1 ((l + 32) ∷ w) (omega arith) refl (λ e. behind-bracket (l + 32) b x h e .0)
+
   pub code-by-c : NoOpener 99 0 x → region code x ≡ 0
-  code-by-c h = no-code x (word-not x 67 refl refl 1 _ (omega arith) refl (λ e. behind-bracket 99 0 x h e .0))
+  code-by-c h = no-code x (word-by 67 0 refl refl _ h)
 
   pub icode-by-c : NoOpener 99 99 x → region icode x ≡ 0
-  icode-by-c h = no-icode x (word-not x 67 refl refl 1 _ (omega arith) refl (λ e. behind-bracket 99 99 x h e .0)) (word-not x 67 refl refl 2 _ (omega arith) refl (λ e. behind-bracket 99 99 x h e .1))
+  icode-by-c h = no-icode x (word-by 67 99 refl refl _ h) (word-not x 67 refl refl 2 _ (omega arith) refl (λ e. behind-bracket 99 99 x h e .1))
 
   pub noparse-by-n : NoOpener 110 0 x → region noparse x ≡ 0
-  noparse-by-n h = no-noparse x (word-not x 78 refl refl 1 _ (omega arith) refl (λ e. behind-bracket 110 0 x h e .0))
+  noparse-by-n h = no-noparse x (word-by 78 0 refl refl _ h)
 
 -- ---- what a function says of three bytes, by place
 

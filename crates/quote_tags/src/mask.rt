@@ -249,7 +249,7 @@ fn past_32s(s: &[u8], at: usize, letter2: u8, letter3: u8) -> usize
 }
 
 // The first place from a place on where a word by these letters may begin, or the end.
-fn next_opener(s: &[u8], at: PostAt, letter2: u8, letter3: u8) -> PostAt
+pub fn next_opener(s: &[u8], at: PostAt, letter2: u8, letter3: u8) -> PostAt
     requires { ⌜ at .0 ≤ length (now s) ⌝ }
     ensures { λ r. ⌜ ((at .0 ≤ r .0) × (r .0 ≤ length (now (s .entry)))) × ((j : ℕ) → at .0 ≤ j → j < r .0 → NoOpener letter2 letter3 (drop j (now (s .entry)))) ⌝ }
 {
