@@ -1,7 +1,8 @@
 //! Times whole posts in one run: the proved converter, the Rust original, cmark and memcpy. Writes the table into the page that is named first
-//! and the picture into the file that is named second.
+//! and the picture into the file that is named second. `count` counts instead, and prints a table; it runs this program with `calls`.
 
 mod cmark;
+mod count;
 mod lent;
 mod picture;
 mod posts;
@@ -11,12 +12,7 @@ mod time;
 
 use std::{env, fs, process::exit};
 
-fn main() {
-    let arguments: Vec<String> = env::args().skip(1).collect();
-    let [page, picture] = arguments.as_slice() else {
-        eprintln!("usage: bench PAGE.md PICTURE.svg");
-        exit(2);
-    };
+fn times(page: &str, picture: &str) {
     let before = fs::read_to_string(page).unwrap_or_else(|e| {
         eprintln!("bench: {page}: {e}");
         exit(2);
@@ -28,4 +24,28 @@ fn main() {
     };
     fs::write(page, after).expect("the page can be written");
     fs::write(picture, picture::of(&runs)).expect("the picture can be written");
+}
+
+fn calls(name: &str, n: &str, times: &str) -> Option<()> {
+    count::calls(name, n.parse().ok()?, times.parse().ok()?)
+}
+
+fn main() {
+    let arguments: Vec<String> = env::args().skip(1).collect();
+    let understood = match arguments.iter().map(String::as_str).collect::<Vec<_>>()[..] {
+        ["count"] => {
+            count::table();
+            true
+        }
+        ["calls", name, n, times] => calls(name, n, times).is_some(),
+        [page, picture] => {
+            times(page, picture);
+            true
+        }
+        _ => false,
+    };
+    if !understood {
+        eprintln!("usage: bench PAGE.md PICTURE.svg | bench count | bench calls FAMILY BYTES TIMES");
+        exit(2);
+    }
 }

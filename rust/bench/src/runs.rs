@@ -135,7 +135,7 @@ fn beside(family: &Family, mut call: impl FnMut(&[u8])) -> Beside {
     }
 }
 
-const LENGTHS: [usize; 3] = [MOST / 4, MOST / 2, MOST];
+pub const LENGTHS: [usize; 3] = [MOST / 4, MOST / 2, MOST];
 
 /// Times the proved converter on posts of all families, in so many lots of memory; the least counts.
 fn in_lots(lots: u32, least: &mut [[f64; 3]]) {
