@@ -14,7 +14,8 @@
 --   lossesBy r               how many there are: none on a refusal
 --   Noted ..                 the numbers then begin with theirs, five each
 --   Ends ..                  what comes back, and what output, origins and loss bytes then hold
---   Numbered ..              this of a call, with the losses noted
+--   Finishes ..              this of a marks text, with the losses noted
+--   Numbered ..              this of a call, likewise
 -- Assumes nothing.
 use mathlib.Core.Path.{_≡_}
 use Prim.Native.Nat.{ℕ, _*_, _≤_}
@@ -102,6 +103,9 @@ pub record Noted (rs : List ℕ) (j : ℕ) (r : Posted) (numbers : List ℕ) : T
 pub record Ends (t : List Cell) (ws : List ℕ) (m k b : ℕ) (wanted r : Posted) (out plain words : List ℕ) : Type 0 where
   pub answer : r ≡ wanted
   pub filled : Filled (ifDone r t) (ifDone r ws) m k b out plain words
+
+abbrev pub Finishes : (post : List ℕ) (x : List Cell) (m k j b : ℕ) (r : Posted) (out plain numbers words : List ℕ) → Type 0
+Finishes post x m k j b r out plain numbers words = Ends (lists (Quotes.quotes caption x)) (lossBytes x) m k b (marked x m j b) r out plain words × Noted (lossRecords post x) j r numbers
 
 abbrev pub Numbered : (post : List ℕ) (m k j b w n : ℕ) (r : Posted) (out plain numbers words : List ℕ) → Type 0
 Numbered post m k j b w n r out plain numbers words =

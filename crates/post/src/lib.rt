@@ -37,7 +37,7 @@ ghost use Rattle.quote_losses.specs.Losses.{ListsLosses, lossBytes, lossRecords
 ghost use Rattle.quotes.specs.Calls.{Filled};
 ghost use Rattle.list_blocks.specs.Lists.{lists};
 ghost use Rattle.chain.specs.Post.{marksText, finished};
-ghost use Rattle.post.specs.Calls.{listing, quoting, marked, converted, lossesBy, Called, Copied, Noted, Ends, Numbered};
+ghost use Rattle.post.specs.Calls.{listing, quoting, converted, lossesBy, Called, Copied, Noted, Ends, Finishes, Numbered};
 ghost use Rattle.post.specs.declared.Posted.the-variants.{Refused};
 
 // The lengths of the text and of the loss bytes, with the number of losses between; or why there is no text.
@@ -81,26 +81,23 @@ fn write_lists(
     Posted::Done(r, count, bytes)
 }
 
-// Lists of the n cells at the front of out and origins, which quotes leaves as they are; the losses are listed. Where lists does too, they are laid
-// out where they stand.
+// Lists of the n cells at the front of out and origins, in which no quote stands. Where lists leaves them as they are, they are laid out where they
+// stand.
 fn write_unquoted(
     n: usize,
-    losses: Counts,
     work: &mut [u8],
     numbers: &mut [u32],
     out: &mut [u8],
     origins: &mut [u32],
     loss_bytes: &mut [u8],
 ) -> Posted
-    requires { ⌜ (((n ≤ length (now out)) × ((length (now out) ≤ 16777216) × (length (now out) ≤ length (now origins)))) × ((3 * length (now out) ≤ length (now work)) × ((3 * length (now out) ≤ length (now numbers)) × (length (now numbers) ≤ 4294967295)))) × (losses .bytes ≤ length (now «loss_bytes»)) ⌝ }
-    ensures { λ r. ⌜ Ends (lists (take n (cells (now (out .entry)) (now (origins .entry))))) (take (losses .bytes) (now («loss_bytes» .entry))) (length (now (out .entry))) (length (now (origins .entry))) (length (now («loss_bytes» .entry))) (listing (take n (cells (now (out .entry)) (now (origins .entry)))) (length (now (out .entry))) (losses .losses) (losses .bytes)) r (now (out .exit)) (now (origins .exit)) (now («loss_bytes» .exit)) ⌝ }
+    requires { ⌜ ((n ≤ length (now out)) × ((length (now out) ≤ 16777216) × (length (now out) ≤ length (now origins)))) × ((3 * length (now out) ≤ length (now work)) × ((3 * length (now out) ≤ length (now numbers)) × (length (now numbers) ≤ 4294967295))) ⌝ }
+    ensures { λ r. ⌜ Ends (lists (take n (cells (now (out .entry)) (now (origins .entry))))) [] (length (now (out .entry))) (length (now (origins .entry))) (length (now («loss_bytes» .entry))) (listing (take n (cells (now (out .entry)) (now (origins .entry)))) (length (now (out .entry))) 0 0) r (now (out .exit)) (now (origins .exit)) (now («loss_bytes» .exit)) ⌝ }
 {
     if no_lists(&out[..n]) {
-        let count = losses.losses;
-        let bytes = losses.bytes;
         leave_text(n, out, origins);
-        zero8(loss_bytes, TextAt(bytes));
-        return Posted::Done(n, count, bytes);
+        zero8(loss_bytes, TextAt(0));
+        return Posted::Done(n, 0, 0);
     }
     copy(
         out,
@@ -111,7 +108,11 @@ fn write_unquoted(
         numbers,
         TextAt(out.len()),
     );
-    write_lists(n, losses, work, numbers, out, origins, loss_bytes)
+    let none = Counts {
+        losses: 0,
+        bytes: 0,
+    };
+    write_lists(n, none, work, numbers, out, origins, loss_bytes)
 }
 
 // Quotes of the n cells at the front of out and origins, which are within quotes' limits, then lists; the losses are listed.
@@ -127,9 +128,6 @@ fn write_quotes(
     requires { ⌜ ((((n ≤ length (now out)) × ((length (now out) ≤ 16777216) × (length (now out) ≤ length (now origins)))) × ((3 * length (now out) ≤ length (now work)) × ((3 * length (now out) ≤ length (now numbers)) × (length (now numbers) ≤ 4294967295)))) × (losses .bytes ≤ length (now «loss_bytes»))) × (tooDeep (take n (cells (now out) (now origins))) ≡ false) ⌝ }
     ensures { λ r. ⌜ Ends (lists (quotes caption (take n (cells (now (out .entry)) (now (origins .entry)))))) (take (losses .bytes) (now («loss_bytes» .entry))) (length (now (out .entry))) (length (now (origins .entry))) (length (now («loss_bytes» .entry))) (quoting (take n (cells (now (out .entry)) (now (origins .entry)))) (length (now (out .entry))) (losses .losses) (losses .bytes)) r (now (out .exit)) (now (origins .exit)) (now («loss_bytes» .exit)) ⌝ }
 {
-    if no_quotes(&out[..n]) {
-        return write_unquoted(n, losses, work, numbers, out, origins, loss_bytes);
-    }
     let q = quote_text(n, work, numbers, out, origins);
     if out.len() < q {
         return refuse(Refusal::NoSpace, out, origins, loss_bytes);
@@ -162,10 +160,10 @@ fn list_lost(
     )
 }
 
-// Quotes and lists of the marks text of a post, the n cells at the front of out and origins. It has no more losses than cells, and no more cells
+// Losses, quotes and lists of the marks text of a post, the n cells at the front of out and origins. It has no more losses than cells, and no more cells
 // than the post has bytes, so five numbers for each byte hold the numbers of their records; the passes have the work numbers behind the records,
 // most of which marks has just used.
-fn convert_marked(
+fn convert_quoted(
     post: &[u8],
     n: usize,
     lent: usize,
@@ -176,7 +174,7 @@ fn convert_marked(
     loss_bytes: &mut [u8],
 ) -> Posted
     requires { ⌜ ((length (now post) ≤ 262144) × (((n ≤ length (now out)) × (n ≤ length (now post))) × ((length (now out) ≤ 16777216) × (length (now out) ≤ length (now origins))))) × ((length (now post) + 3 * length (now out) ≤ length (now work)) × ((8 * length (now post) + 3 * length (now out) + 64 ≤ length (now numbers)) × (length (now numbers) ≤ 4294967295))) ⌝ }
-    ensures { λ r. ⌜ Ends (lists (quotes caption (take n (cells (now (out .entry)) (now (origins .entry)))))) (lossBytes (take n (cells (now (out .entry)) (now (origins .entry))))) (length (now (out .entry))) (length (now (origins .entry))) (length (now («loss_bytes» .entry))) (marked (take n (cells (now (out .entry)) (now (origins .entry)))) (length (now (out .entry))) lent (length (now («loss_bytes» .entry)))) r (now (out .exit)) (now (origins .exit)) (now («loss_bytes» .exit)) × Noted (lossRecords (now (post .entry)) (take n (cells (now (out .entry)) (now (origins .entry))))) lent r (now (numbers .exit)) ⌝ }
+    ensures { λ r. ⌜ Finishes (now (post .entry)) (take n (cells (now (out .entry)) (now (origins .entry)))) (length (now (out .entry))) (length (now (origins .entry))) lent (length (now («loss_bytes» .entry))) r (now (out .exit)) (now (origins .exit)) (now (numbers .exit)) (now («loss_bytes» .exit)) ⌝ }
 {
     let base = 5 * post.len();
     let c = list_lost(post, n, out, work, numbers, base, loss_bytes);
@@ -197,6 +195,27 @@ fn convert_marked(
             loss_bytes,
         ),
     }
+}
+
+// Quotes and lists of the marks text of a post, the n cells at the front of out and origins. Where no quote stands in it there are no losses, so no
+// line of the post is looked for.
+fn convert_marked(
+    post: &[u8],
+    n: usize,
+    lent: usize,
+    work: &mut [u8],
+    numbers: &mut [u32],
+    out: &mut [u8],
+    origins: &mut [u32],
+    loss_bytes: &mut [u8],
+) -> Posted
+    requires { ⌜ ((length (now post) ≤ 262144) × (((n ≤ length (now out)) × (n ≤ length (now post))) × ((length (now out) ≤ 16777216) × (length (now out) ≤ length (now origins))))) × ((length (now post) + 3 * length (now out) ≤ length (now work)) × ((8 * length (now post) + 3 * length (now out) + 64 ≤ length (now numbers)) × (length (now numbers) ≤ 4294967295))) ⌝ }
+    ensures { λ r. ⌜ Finishes (now (post .entry)) (take n (cells (now (out .entry)) (now (origins .entry)))) (length (now (out .entry))) (length (now (origins .entry))) lent (length (now («loss_bytes» .entry))) r (now (out .exit)) (now (origins .exit)) (now (numbers .exit)) (now («loss_bytes» .exit)) ⌝ }
+{
+    if no_quotes(&out[..n]) {
+        return write_unquoted(n, work, numbers, out, origins, loss_bytes);
+    }
+    convert_quoted(post, n, lent, work, numbers, out, origins, loss_bytes)
 }
 
 // Converts a post that is right, in memory that is large enough.

@@ -18,7 +18,7 @@ use Rattle.quote_blocks.specs.Quotes as Q
 use Rattle.quote_blocks.proofs.QuotesFit.{quotes-fit}
 use Rattle.quote_blocks.proofs.Reading.{bytes-at}
 use Rattle.quote_steps.specs.Passes.{texts, more}
-use Rattle.quote_steps.proofs.Texts.{read-run, more-is, run-texts, need-texts}
+use Rattle.quote_steps.proofs.Texts.{read-run, deep-texts, more-is, run-texts, need-texts}
 use Rattle.list_blocks.specs.declared.tag.Tag.{Tag}
 use Rattle.list_blocks.specs.declared.tag.Tag.the-variants.{Item, Closer, Plain}
 use Rattle.list_blocks.specs.Tags.{Token, tagAt, restOf, tokenOf, tokens, depthAfter, overLimit, deeper, tooDeep}
@@ -27,6 +27,11 @@ use Rattle.list_steps.proofs.Needs.{tokens-skip}
 use Rattle.post_steps.specs.Plain.{Unquoted, Unlisted}
 
 -- ---- quotes: every cell is a text
+
+texts-name : (x : List Cell) → Q.attributionsIn (texts x []) ≡ []
+unfolding texts Q.attributionsIn
+texts-name [] = refl
+texts-name (c ∷ x) = texts-name x
 
 module _ (s : List ℕ) (f : Run NoTag s 0 (length s)) (x : List Cell) (e : bytes x ≡ s) where
   long : length x ≡ length s
@@ -38,6 +43,10 @@ module _ (s : List ℕ) (f : Run NoTag s 0 (length s)) (x : List Cell) (e : byte
       read-run x s e 0 f
       ∙ ap (λ (l : List Cell). texts l (Q.tokens 0 (drop (length s) x))) (take-all (length s) x (omega (arith, long)))
       ∙ ap (λ (l : List Cell). texts x (Q.tokens 0 l)) (drop-of-length-le x {i = length s} (omega (arith, long)))
+
+  quotes-none : (Q.tooDeep x ≡ false) × (Q.attributions x ≡ [])
+  unfolding Q.tooDeep Q.tooDeepFrom Q.attributions
+  quotes-none = (ap (Q.tooDeepFrom 0) all-text ∙ deep-texts 0 x [], ap Q.attributionsIn all-text ∙ texts-name x)
 
   quotes-same : Q.quotes caption x ≡ x
   unfolding Q.quotes Q.run Q.finish
@@ -54,7 +63,7 @@ module _ (s : List ℕ) (f : Run NoTag s 0 (length s)) (x : List Cell) (e : byte
       omega (arith, least, most, last, whole)
 
 pub unquoted : (s : List ℕ) → Run NoTag s 0 (length s) → Unquoted s
-unquoted s f x e = (quotes-same s f x e, quotes-room s f x e)
+unquoted s f x e = (quotes-none s f x e, (quotes-same s f x e, quotes-room s f x e))
 
 -- ---- lists: no tag opens one
 

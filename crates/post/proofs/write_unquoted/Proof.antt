@@ -16,7 +16,7 @@ slice-reshare-prefix-no-lists c = search needs
 
 slice-aggregate-no-lists : tie.Need-slice-aggregate-no-lists
 slice-aggregate-no-lists c =
-    let a = c .before .before .before .before .before .before .args in sym (length-take-le (a .n) (a .out .now) (c .before .before .before .before .before .before .pre .0 .0 .0))
+    let a = c .before .before .before .before .before .before .args in sym (length-take-le (a .n) (a .out .now) (c .before .before .before .before .before .before .pre .0 .0))
 
 no-lists-requires : tie.Need-no-lists-requires
 no-lists-requires c κs = search needs
@@ -40,7 +40,7 @@ returns : tie.Need-returns
 returns c =
     let a = c .before .before .before .before .before .before .before .before .before .before .before .before .before .before .before .before .before .before .before .args in
     let pre = c .before .before .before .before .before .before .before .before .before .before .before .before .before .before .before .before .before .before .before .pre in
-    unlisted-ends (a .n) (length (a .out .now)) (a .losses .losses) (a .losses .bytes) (a .out .now) (a .origins .now) (pre .0 .0 .0) (omega (arith, pre)) (pre .0 .0 .0) (c .before .before .before .before .before .before .before .before .before .before .before .before .no-lists .ensures (c .before .before .before .before .before .before .before .before .before .before .before .if1 .taken)) (c .before .before .before .before .before .before .before .before .leave-text .ensures) (c .before .before .zero8 .ensures ∙ cleared-taken (a .losses .bytes) (a .loss-bytes .now) _ (pre .1) refl)
+    unlisted-ends (a .n) (length (a .out .now)) (a .out .now) (a .origins .now) (pre .0 .0) (omega (arith, pre)) (pre .0 .0) 0 0 (c .before .before .before .before .before .before .before .before .before .before .before .before .no-lists .ensures (c .before .before .before .before .before .before .before .before .before .before .before .if1 .taken)) (c .before .before .before .before .before .before .before .before .leave-text .ensures) (c .before .before .zero8 .ensures ∙ cleared-taken 0 (a .loss-bytes .now) _ (omega arith) refl)
 
 copy-requires : tie.Need-copy-requires
 copy-requires c κs = search needs
@@ -51,7 +51,7 @@ write-lists-requires c κs =
     let k = c .before .before .before .before .before .before .before .before .before .copy in
     let lw = k .kept .1 .1 .1 .1 .0 in
     let ln = k .kept .1 .1 .1 .1 .1 .0 in
-    ((pre .0 .0, (omega (arith, pre, lw), (omega (arith, pre, ln), omega (arith, pre, ln)))), pre .1)
+    ((pre .0, (omega (arith, pre, lw), (omega (arith, pre, ln), omega (arith, pre, ln)))), omega arith)
 
 same-length-4 : tie.Need-same-length-4
 same-length-4 c = search needs
