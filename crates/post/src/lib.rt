@@ -160,9 +160,9 @@ fn list_lost(
     )
 }
 
-// Losses, quotes and lists of the marks text of a post, the n cells at the front of out and origins. It has no more losses than cells, and no more cells
-// than the post has bytes, so five numbers for each byte hold the numbers of their records; the passes have the work numbers behind the records,
-// most of which marks has just used.
+// Losses, quotes and lists of the marks text of a post, the n cells at the front of out and origins. It has no more losses than cells, and no more
+// cells than the post has bytes, so five numbers for each byte hold the numbers of their records; the passes have the work numbers behind the
+// records, most of which marks has just used.
 fn convert_quoted(
     post: &[u8],
     n: usize,
@@ -197,8 +197,7 @@ fn convert_quoted(
     }
 }
 
-// Quotes and lists of the marks text of a post, the n cells at the front of out and origins. Where no quote stands in it there are no losses, so no
-// line of the post is looked for.
+// The same, for any marks text. Where no quote stands in it there are no losses, and no line of the post is looked for.
 fn convert_marked(
     post: &[u8],
     n: usize,
