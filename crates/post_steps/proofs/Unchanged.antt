@@ -1,4 +1,4 @@
--- Texts that quotes and lists leave as they are. Assumes nothing.
+-- Texts that quotes and lists leave as they are: a scan for where a tag may begin reaches their end. Assumes nothing.
 use mathlib.Core.Path.{_≡_, refl, sym, ap, subst, _∙_}
 use Prim.Native.Nat.{ℕ, zero, suc, _+_, _≤_, _<_}
 use native.Mathlib.Nat.{not-suc-le-zero}
@@ -7,6 +7,8 @@ use mathlib.Core.Bool.{Bool, true, false, cond}
 use mathlib.Core.List.{List, [], _∷_, _++_, append-assoc, append-nil}
 use lib.ListN.{length, take, drop, length-append, length-map, length-drop, take-append-drop, drop-of-length-le}
 use lib.Seq.{take-all, drop-drop}
+use lib.Dec.{leb}
+use borrow.Author.Tests.{leb-true}
 use Rattle.text.specs.Ascii.{ascii, begins}
 use Rattle.text.specs.Cells.{Cell, bytes, part}
 use Rattle.attribution_parts.specs.Attribution.{caption}
@@ -25,6 +27,9 @@ use Rattle.list_blocks.specs.Tags.{Token, tagAt, restOf, tokenOf, tokens, depth
 use Rattle.list_blocks.specs.Lists.{State, step, finish, run, lists, held, finishNeed, runNeed, listsNeed}
 use Rattle.list_steps.proofs.Needs.{tokens-skip}
 use Rattle.post_steps.specs.Plain.{Unquoted, Unlisted}
+
+reaches-end : (P : List ℕ → Type 0) (s : List ℕ) (i : ℕ) → Run P s 0 i → leb (length s) i ≡ true → Run P s 0 (length s)
+reaches-end P s i f h = let e = leb-true (length s) i h in let z : i ≡ length s = omega (arith, e, f .0 .1) in rw z at f
 
 -- ---- quotes: every cell is a text
 
@@ -62,8 +67,8 @@ module _ (s : List ℕ) (f : Run NoTag s 0 (length s)) (x : List Cell) (e : byte
       let whole : Q.quotesNeed caption x ≡ Q.runNeed caption (texts x []) Q.start = ap (λ (ks : List Q.Token). Q.runNeed caption ks Q.start) all-text in
       omega (arith, least, most, last, whole)
 
-pub unquoted : (s : List ℕ) → Run NoTag s 0 (length s) → Unquoted s
-unquoted s f x e = (quotes-none s f x e, (quotes-same s f x e, quotes-room s f x e))
+pub unquoted : (s : List ℕ) (i : ℕ) → Run NoTag s 0 i → leb (length s) i ≡ true → Unquoted s
+unquoted s i f h x e = let g = reaches-end NoTag s i f h in (quotes-none s g x e, (quotes-same s g x e, quotes-room s g x e))
 
 -- ---- lists: no tag opens one
 
@@ -128,9 +133,10 @@ stays (suc n) (c ∷ x) p h f =
       need = omega (arith, q, w);
     }
 
-pub unlisted : (s : List ℕ) → Run (NoOpener 108 0) s 0 (length s) → Unlisted s
+pub unlisted : (s : List ℕ) (i : ℕ) → Run (NoOpener 108 0) s 0 i → leb (length s) i ≡ true → Unlisted s
 unfolding tooDeep lists listsNeed
-unlisted s f x e =
+unlisted s i f h x e =
+    let r = reaches-end (NoOpener 108 0) s i f h in
     let l : length x ≡ length s = sym (length-map x (λ (c : Cell). c .byte)) ∙ ap length e in
-    let g = stays (length x) x [] (omega arith) (λ j h. stray (drop j x) (subst (NoOpener 108 0) (sym (bytes-at x s e j)) (f .1 j (omega arith) (omega (arith, l))))) in
+    let g = stays (length x) x [] (omega arith) (λ j d. stray (drop j x) (subst (NoOpener 108 0) (sym (bytes-at x s e j)) (r .1 j (omega arith) (omega (arith, l))))) in
     (g .deep, (g .text, (let z = g .need in omega arith)))

@@ -121,6 +121,11 @@ fn again(piece: &str, n: usize) -> Vec<u8> {
     cut(piece.repeat(n / piece.len() + 1), n)
 }
 
+/// A quote that loses a field, so that the lines of the post are read, and then a piece again and again.
+fn behind_a_loss(piece: &str, n: usize) -> Vec<u8> {
+    cut(["[quote=k=][/quote]", &piece.repeat(n / piece.len() + 1)].concat(), n)
+}
+
 /// Blocks that open `depth` times and close as often.
 fn nested(open: &str, inside: &str, close: &str, depth: usize, n: usize) -> Vec<u8> {
     again(&[&open.repeat(depth), inside, &close.repeat(depth)].concat(), n)
@@ -133,7 +138,7 @@ const fn family(name: &'static str, shape: &'static str, make: fn(usize) -> Vec<
 pub const FAMILIES: &[Family] = &[
     family("quote opener without ]", "`[quote=a ` again and again", |n| again("[quote=a ", n)),
     family("list opener without ]", "`[list=1 ` again and again", |n| again("[list=1 ", n)),
-    family("code opener without ]", "`[code=a ` again and again", |n| again("[code=a ", n)),
+    family("code opener without ]", "`[quote=k=][/quote]`, then `[code=a ` again and again", |n| behind_a_loss("[code=a ", n)),
     family("quotes never closed", "`[quote]a` again and again", |n| again("[quote]a", n)),
     family("lists never closed", "`[list][*]a` again and again", |n| again("[list][*]a", n)),
     Family {
@@ -178,16 +183,17 @@ pub const FAMILIES: &[Family] = &[
     family("braced marks", "`a[b]a[/b]` again and again: every mark takes braces", |n| again("a[b]a[/b]", n)),
     family("backslashes before a mark", "backslashes, `*[b]{[/b]`", |n| cut(["\\".repeat(n - 10), "*[b]{[/b]".into()].concat(), n)),
     family("backslashes between marks", "`\\\\*[b]\\\\{[/b]` again and again", |n| again("\\\\*[b]\\\\{[/b]", n)),
-    family("code never closed", "`[code]a` again and again", |n| again("[code]a", n)),
-    family("code never opened", "`[/code]a` again and again", |n| again("[/code]a", n)),
-    family("masks of all kinds", "`[code]a[/code][c]b[/icode][noparse]c[/noparse]` again and again", |n| {
-        again("[code]a[/code][c]b[/icode][noparse]c[/noparse]", n)
+    family("code never closed", "`[quote=k=][/quote]`, then `[code]a` again and again", |n| behind_a_loss("[code]a", n)),
+    family("code never opened", "`[quote=k=][/quote]`, then `[/code]a` again and again", |n| behind_a_loss("[/code]a", n)),
+    family("masks of all kinds", "`[quote=k=][/quote]`, then `[code]a[/code][c]b[/icode][noparse]c[/noparse]` again and again", |n| {
+        behind_a_loss("[code]a[/code][c]b[/icode][noparse]c[/noparse]", n)
     }),
     family("empty items", "`[list]`, then `[*]` again and again", |n| cut(["[list]", &"[*]".repeat(n / 3)].concat(), n)),
-    family("lines of an item", "`[list][*]`, then lines of one letter", |n| cut(["[list=1][*]", &"a\n".repeat(n / 2)].concat(), n)),
+    family("lines of an item", "`[list=1][*]`, then lines of one letter", |n| cut(["[list=1][*]", &"a\n".repeat(n / 2)].concat(), n)),
     family("blanks", "`[list][*]`, then U+3000 again and again", |n| cut(["[list][*]", &"\u{3000}".repeat(n / 3)].concat(), n)),
     family("opening brackets", "`[` again and again", |n| again("[", n)),
     family("letters q", "`q` again and again", |n| again("q", n)),
+    family("letters q behind a quote", "`[quote=k=][/quote]`, then `q` again and again", |n| behind_a_loss("q", n)),
     family("quote tags begun", "`[q[/q` again and again", |n| again("[q[/q", n)),
-    family("line feeds in a quote", "`[quote]`, then line feeds, then `a`", |n| cut(["[quote]a", &"\n".repeat(n - 9), "a"].concat(), n)),
+    family("line feeds in a quote", "`[quote]a`, then line feeds, then `a`", |n| cut(["[quote]a", &"\n".repeat(n - 9), "a"].concat(), n)),
 ];

@@ -96,6 +96,8 @@ const REPEATED: &[(&str, &str, &str)] = &[
     ("", "[code", ""),
     ("[code]", "x", ""),
     ("", "[code]", ""),
+    ("[quote=k=]", "[code]x", "[/quote]\n[quote=k=]"),
+    ("[quote=k=]", "[code]\n[/code][c]é[/icode][noparse]", "\n[quote=k=]"),
     ("[list]", "[*]", "[/list]"),
     ("[list][*]a", "[*]", "[/list]b"),
     ("[quote]", "x\n", "[/quote]"),
