@@ -1,4 +1,5 @@
 pub mod Counting
 pub mod Flattening
 pub mod Passing
+pub mod NoTags
 pub mod Conversion

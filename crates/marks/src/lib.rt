@@ -16,6 +16,7 @@ ghost use Rattle.marks.specs.declared.Marked.the-variants.{Refused};
 
 pub mod leave;
 pub mod pass;
+pub mod untagged;
 
 // The length of the text and the number of its spans, or why there are none.
 pub enum Marked {

@@ -1,4 +1,6 @@
 // The marks pass over a text: the written cells in a pair of slices, and the spans.
+use crate::untagged::is_untagged;
+use crate::untagged::write_cells;
 use mark_items::items::read_items;
 use mark_writing::slot::Went;
 use mark_writing::slot::write_slot;
@@ -31,6 +33,12 @@ pub fn marks_pass(text: &[u8], nums: &mut [u32], out: &mut [u8], origins: &mut [
     requires { ⌜ ((length (now text) ≤ 262144) × (8 * length (now text) + 64 ≤ length (now nums))) × ((length (now out) ≤ 16777216) × (length (now out) ≤ length (now origins))) ⌝ }
     ensures { λ r. ⌜ Holds (cells (now (out .exit)) (now (origins .exit))) (r .0) (marks (cellsOf (now (text .entry))) .cells) ⌝ }
 {
+    if text.len() <= out.len() {
+        if is_untagged(text) {
+            write_cells(text, out, origins);
+            return TextAt(text.len());
+        }
+    }
     let mut spans: [u32; 1] = [0; 1];
     let went = write_marks(text, nums, out, origins, &mut spans);
     TextAt(went.to)
