@@ -1,5 +1,5 @@
 //! What a call takes, counted without a clock by valgrind: instructions, and the cache lines that a simulated second cache fetches. Neither depends on
-//! the machine that counts.
+//! the caches of the machine that counts, nor on what runs beside it.
 
 use crate::{lent::Lent, posts, runs::LENGTHS};
 use std::{env, hint::black_box, process::Command};
