@@ -12,12 +12,13 @@ use lib.Seq.{drop-cons}
 use borrow.Author.Tests.{le-leb, lt-leb, leb-true, lt-ltb, le-ltb}
 use Rattle.text.specs.Ascii.{inside, isDigit, allDigits}
 use Rattle.day.specs.Day.{numberAfter, number, isSeconds, iso, date, leap, dateAfter, dayOf, answer, output}
+use Rattle.day.specs.MonthStarts.{monthStart}
 use Rattle.day.specs.declared.Date.{Date}
 use Rattle.day.specs.declared.Dated.the-variants.{Done, Refused}
 use Rattle.lending.specs.declared.lent.Refusal.the-variants.{SizesWrong, NotSeconds}
 use Rattle.text.specs.Writes.{cleared, padded}
 use Rattle.text.proofs.Bytes.{both, inside-true}
-use Rattle.day.proofs.March.{below12, stands, Stands, yearStart, monthStart}
+use Rattle.day.proofs.March.{below12, stands, Stands, yearStart}
 
 digits-cons : (s : List ℕ) (i : ℕ) → i < length s → allDigits (drop i s) ≡ (isDigit (getD s i 0) && allDigits (drop (i + 1) s))
 unfolding allDigits

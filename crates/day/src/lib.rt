@@ -22,9 +22,6 @@ pub enum Dated {
     Refused(Refusal),
 }
 
-// Days from 1 March to the first of each month, from March on.
-const MONTH_STARTS: [u64; 12] = [0, 31, 61, 92, 122, 153, 184, 214, 245, 275, 306, 337];
-
 // The day that lies n days after 1970-01-01.
 fn date_after(n: u64) -> Date
     requires { ⌜ n < 4294967296 ⌝ }
@@ -36,8 +33,9 @@ fn date_after(n: u64) -> Date
     let year_of_era = (day_of_era - day_of_era / 1460 + day_of_era / 36524 - day_of_era / 146096)
         / 365;
     let day_of_year = day_of_era - (365 * year_of_era + year_of_era / 4 - year_of_era / 100);
+    // Months count from March: month m starts (153 * m + 2) / 5 days after 1 March (specs/MonthStarts.antt).
     let month_parameter = (5 * day_of_year + 2) / 153;
-    let day = day_of_year - MONTH_STARTS[month_parameter as usize] + 1;
+    let day = day_of_year - (153 * month_parameter + 2) / 5 + 1;
     let year = era * 400 + year_of_era;
     if month_parameter < 10 {
         return Date {
