@@ -1,5 +1,5 @@
 //! Times whole posts in one run: the proved converter, the Rust original, cmark and memcpy. Writes the table into the page that is named first
-//! and the picture into the file that is named second. `count` counts instead, and prints a table; it runs this program with `calls`.
+//! and the picture into the file that is named second. `count` counts instead, and prints two tables; it runs this program with `calls`.
 
 mod cmark;
 mod count;
@@ -26,18 +26,18 @@ fn times(page: &str, picture: &str) {
     fs::write(picture, picture::of(&runs)).expect("the picture can be written");
 }
 
-fn calls(name: &str, n: &str, times: &str) -> Option<()> {
-    count::calls(name, n.parse().ok()?, times.parse().ok()?)
+fn calls(contender: &str, name: &str, n: &str, times: &str) -> Option<()> {
+    count::calls(contender, name, n.parse().ok()?, times.parse().ok()?)
 }
 
 fn main() {
     let arguments: Vec<String> = env::args().skip(1).collect();
     let understood = match arguments.iter().map(String::as_str).collect::<Vec<_>>()[..] {
         ["count"] => {
-            count::table();
+            count::tables();
             true
         }
-        ["calls", name, n, times] => calls(name, n, times).is_some(),
+        ["calls", contender, name, n, times] => calls(contender, name, n, times).is_some(),
         [page, picture] => {
             times(page, picture);
             true
@@ -45,7 +45,7 @@ fn main() {
         _ => false,
     };
     if !understood {
-        eprintln!("usage: bench PAGE.md PICTURE.svg | bench count | bench calls FAMILY BYTES TIMES");
+        eprintln!("usage: bench PAGE.md PICTURE.svg | bench count | bench calls libcarve|cmark forum-like|FAMILY BYTES TIMES");
         exit(2);
     }
 }
