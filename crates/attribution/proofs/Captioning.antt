@@ -29,9 +29,6 @@ use Rattle.attribution.proofs.TextLaws.{written-append, written-first}
 use Rattle.attribution_reading.proofs.Fielding.{length-bytes}
 use Rattle.attribution_reading.proofs.Texts.{kept-short}
 
-pub appends-as : {v v' t u : List Cell} {a b : ℕ} → t ≡ u → Appends v a v' b t → Appends v a v' b u
-appends-as e p = rw (← e) p
-
 pub written-none : written [] ≡ []
 unfolding written cellsFrom
 written-none = refl

@@ -1,38 +1,41 @@
 -- Laws of a whole call of `format_attribution`. Assumes nothing.
 use mathlib.Core.Path.{_≡_, refl, sym, ap, _∙_}
 use mathlib.Core.Bool.{false}
-use mathlib.Core.List.{List, [], _++_}
+use mathlib.Core.List.{List, [], _∷_}
 use Prim.Native.Nat.{ℕ, _+_, _-_, _*_, _≤_, _<_}
 use native.Mathlib.Nat.{sub-zero}
 use native.Mathlib.Omega.{arith}
 use native.Mathlib.Decide.{decLe}
 use lib.Dec.{ltb}
-use lib.ListN.{length, take, drop, length-map}
-use lib.Seq.{length-take-le, drop-append-seam}
+use lib.ListN.{length, take, replicate, length-map, length-replicate, replicate-append-replicate}
+use lib.Seq.{take-take}
 use borrow.Author.Tests.{lt-ltb, le-ltb}
-use Rattle.text.specs.Cells.{Cell, cells, written, bytes as textOf}
-use Rattle.text.specs.Writes.{Holds, Appends, LaidOut, cleared, padded}
+use Rattle.text.specs.Bounds.{textMost}
+use Rattle.text.specs.Cells.{Cell, cells, cellsFrom, moreAfter, part, written, bytes as textOf, origins as originsOf}
+use Rattle.text.specs.Writes.{AppendsIn, LaidOut, cleared, padded}
 use Rattle.lending.specs.Lent.{checked}
 use Rattle.lending.specs.declared.lent.Refusal.{Refusal}
 use Rattle.lending.specs.declared.lent.Refusal.the-variants.{NoSpace, TooManyLosses, LossBytesShort}
 use Rattle.lending.specs.declared.lent.Spans.the-variants.{Without}
 use Rattle.lending.specs.declared.lent.Checked.{Checked}
 use Rattle.lending.specs.declared.lent.Checked.the-variants as C
-use Rattle.text.proofs.Clearing.{laid-cleared, cells-bytes}
-use Rattle.text.proofs.Writing.{cells-le, cells-short}
+use Rattle.text.proofs.Areas.{appendsIn-as, stands-appended}
+use Rattle.text.proofs.Clearing.{laid-cleared}
 use Rattle.attribution_parts.specs.Attribution.{caption, losses}
 use Rattle.attribution_reading.specs.Places.{bytes}
-use Rattle.attribution_reading.proofs.Texts.{drop-take}
 use Rattle.attribution_losses.specs.Captions.{nameTexts}
 use Rattle.attribution_losses.specs.Lists.{Puts, recordsOf, lossWords, Lists}
 use Rattle.attribution_losses.proofs.Losing.{listed-counts}
 use Rattle.attribution.specs.declared.Attributed.{Attributed}
 use Rattle.attribution.specs.declared.Attributed.the-variants.{Done, Refused}
-use Rattle.attribution.specs.Calls.{formatted, answerBy, answered, lossesBy, Holding, Called, Noted, Formatted, Numbered}
+use Rattle.attribution.specs.declared.caption.Words.{Words}
+use Rattle.attribution.specs.Spoken.{said, Spoken}
+use Rattle.attribution.specs.Calls.{formatted, answerBy, answered, lossesBy, Holding, Called, Noted, Captioned, Lost, Formatted, Numbered}
 use Rattle.losses.specs.declared.Loss.{Loss}
 use Rattle.losses.specs.Records.{recordsLent}
 use Rattle.attribution.proofs.TextLaws.{written-bytes}
 use Rattle.attribution.proofs.Fitting.{texts-within-caption}
+use Rattle.attribution.proofs.Speaking.{joined-there, spoken-there}
 
 -- ---- clearing
 
@@ -53,91 +56,81 @@ module _ {numbers bytes numbers₁ bytes₁ : List ℕ} {k e : ℕ} (s : List �
   pub counted : Done len k e ≡ Done len (length (losses s)) (length (lossWords (losses s)))
   counted = let n = listed-counts (losses s) h in let a : k ≡ length (losses s) = omega (arith, n .0) in let b : e ≡ length (lossWords (losses s)) = omega (arith, n .1) in rw (a, b)
 
-  pub all-listed : (out origins : List ℕ) {out' origins' bytes' : List ℕ} → len ≤ length out → length (lossWords (losses s)) ≤ length bytes → k ≤ 0 + length s
-      → out' ≡ cleared len out → origins' ≡ cleared 0 origins → bytes' ≡ cleared e bytes₁
-      → Holding (take len out) (lossWords (losses s)) (length out) (length origins) (length bytes) out' origins' bytes'
-      × (Puts numbers 0 numbers₁ (5 * length (losses s)) (recordsOf 0 0 0 (losses s)) × (length (losses s) ≤ length s))
-  all-listed out origins in-out in-bytes few o p r =
+  pub all-listed : {bytes' : List ℕ} → length (lossWords (losses s)) ≤ length bytes → k ≤ 0 + length s → bytes' ≡ cleared e bytes₁ → Lost s numbers (length bytes) numbers₁ bytes'
+  all-listed in-bytes few r =
       let n = listed-counts (losses s) h in
-      let f : k ≡ length (losses s) = omega (arith, n .0) in (
-        record {
-          written = o ∙ laid-cleared (take len out) out len (length out) refl (length-take-le len out in-out) refl;
-          from = p ∙ none-left origins;
-          lost = r ∙ put-cleared (h .words) in-bytes;
-        },
-        (rw (← f) (h .records), omega (arith, f)),
-      )
+      let f : k ≡ length (losses s) = omega (arith, n .0) in
+      record { records = rw (← f) (h .records); few = omega (arith, f); words = r ∙ put-cleared (h .words) in-bytes }
 
--- ---- the caption, over its joined texts
+-- ---- the caption, beside its joined texts
 
 length-written : (x : List ℕ) → length (written x) ≡ length x
 length-written x = sym (length-map (written x) (λ c. c .byte)) ∙ ap length (written-bytes x)
 
-holds-none : (v : List Cell) → Holds v 0 []
-holds-none v = record { end = λ h. refl; text = λ h. refl; full = λ h. absurd (omega arith) }
+-- the text is in front, the caption behind it up to `end`, the joined texts from there on
+module _ (s : List ℕ) {work₁ work₂ : List ℕ} {end past : ℕ} (source : take (length s) work₁ ≡ s) (far : length s ≤ end) (most : end ≤ length work₁)
+    (j : Puts work₁ end work₂ past (nameTexts (bytes work₁ 0 (length s - 0)))) where
+  in-front : take (length s) work₂ ≡ s
+  in-front = sym (take-take (length s) end work₂ far) ∙ ap (take (length s)) (j .keeps) ∙ take-take (length s) end work₁ far ∙ source
 
-module _ (s : List ℕ) {work₁ work₂ : List ℕ} {end : ℕ} (source : take (length s) work₁ ≡ s)
-    (j : Puts work₁ (length s) work₂ end (nameTexts (bytes work₁ 0 (length s - 0)))) where
   source-texts : nameTexts (bytes work₁ 0 (length s - 0)) ≡ nameTexts s
   unfolding bytes
   source-texts = ap (λ (k : ℕ). nameTexts (take k work₁)) (sub-zero (length s)) ∙ ap nameTexts source
 
-  end-is : end ≡ length s + length (nameTexts s)
-  end-is = j .end ∙ ap (λ (t : List ℕ). length s + length t) source-texts
+  past-is : past ≡ end + length (nameTexts s)
+  past-is = j .end ∙ ap (λ (t : List ℕ). end + length t) source-texts
 
-  pub in-front : take (length s) work₂ ≡ s
-  in-front = j .keeps ∙ source
+  abbrev words : Words
+  words = record { from = 0; to = length s; joined = end; past = past }
 
-  pub texts-behind : end ≤ length work₂ → take (end - length s) (drop (length s) work₂) ≡ nameTexts (take (length s) work₂)
-  texts-behind h =
+  said-is : said words work₂ ≡ s
+  said-is = ap (λ (k : ℕ). take k work₂) (sub-zero (length s)) ∙ in-front
+
+  pub words-spoken : past ≤ length work₂ → length s ≤ textMost → Spoken work₂ (length s) end words
+  words-spoken h small =
       let z = j .size in
-      let e : take end work₂ ≡ take (length s) work₁ ++ nameTexts s = j .text (omega (arith, z)) ∙ ap (λ (t : List ℕ). take (length s) work₁ ++ t) source-texts in
-      sym (drop-take (length s) end work₂) ∙ ap (drop (length s)) (e ∙ ap (λ (t : List ℕ). t ++ nameTexts s) source) ∙ drop-append-seam s (nameTexts s) ∙ ap nameTexts (sym in-front)
-
-  pub joined-in : length s ≤ end
-  joined-in = let e = end-is in omega (arith, e)
+      let p = past-is in
+      spoken-there 0 (length s) past (omega arith) (omega arith) far (omega (arith, p)) h (omega (arith, small)) (joined-there j most (omega (arith, z, h)) ∙ source-texts ∙ ap nameTexts (sym said-is))
 
   -- where the joined texts do not fit, the caption does not
-  pub not-fitting : (out origins : List ℕ) → length s + 3 * length out ≤ length work₁ → length work₂ < end → Holds (cells out origins) end (written (caption s))
-  not-fitting out origins most h =
-      let a = cells-short out origins in
+  pub not-fitting : (m : ℕ) (ns : List ℕ) → end ≡ length s + m → length s + 3 * m ≤ length work₁ → length work₂ < past → Captioned s m work₂ ns past
+  not-fitting m ns q room h =
       let b = texts-within-caption s in
-      let n = length-written (caption s) in
-      let e = end-is in
+      let p = past-is in
       let z = j .size in
-      record {
-        end = λ g. absurd (omega (arith, a, b, n, e, z));
-        text = λ g. absurd (omega (arith, a, b, n, e, z));
-        full = λ g. omega (arith, a, b, n, e, z);
-      }
+      record { fits = λ f. absurd (omega (arith, b, p, z)); full = λ f. omega (arith, p, z) }
 
-  pub caption-held : {v v' : List Cell} {at : ℕ} → Appends v 0 v' at (written (caption (take (length s) work₂))) → Holds v' at (written (caption s))
-  caption-held {v} {v'} {at} a = rw (← in-front) (a .step [] (holds-none v))
+  pub caption-stands : (m : ℕ) {ns work₃ ns₃ : List ℕ} {r : ℕ} → end ≡ length s + m → end ≤ length ns → length work₃ ≡ length work₂ → length ns₃ ≡ length ns
+      → AppendsIn work₂ ns end (length s) work₃ ns₃ r (written (caption (said words work₂))) → Captioned s m work₃ ns₃ r
+  caption-stands m {ns} {work₃} {ns₃} {r} q hn sb sn a =
+      let z = j .size in
+      let n = length-written (caption s) in
+      let t = stands-appended far (omega (arith, z, most)) hn sb sn (appendsIn-as (ap (λ (x : List ℕ). written (caption x)) said-is) a) in
+      record { fits = λ f. (let g = t .0 (omega (arith, f, n, q)) in (omega (arith, g .0, n), g .1)); full = λ f. (let g = t .1 (omega (arith, f, n, q)) in omega (arith, g, q)) }
 
 -- ---- a text that is right
 
-module _ (s out origins : List ℕ) (len : ℕ) (h : Holds (cells out origins) len (written (caption s))) (enough : length out ≤ length origins) where
-  cells-most : length out ≤ length (cells out origins)
-  cells-most = cells-le out origins (length out) (omega arith) enough
+module _ (s : List ℕ) (m : ℕ) {work numbers : List ℕ} {r : ℕ} (h : Captioned s m work numbers r) where
+  pub caption-from : length s ≤ r
+  caption-from = elim (decLe (length (caption s)) m) [ yes g ↦ (let e = h .fits g .0 in omega (arith, e)) | no g ↦ (let e = h .full (omega arith) in omega (arith, e)) ]
 
-  caption-over : length out < len → length out < length (caption s)
-  caption-over far =
-      let a = cells-most in
-      let z = cells-short out origins in
-      let n = length-written (caption s) in
-      elim (decLe (length (written (caption s))) (length (cells out origins))) [ yes g ↦ (let e = h .end g in omega (arith, a, z, n, e)) | no g ↦ omega (arith, a, z, n) ]
+  caption-over : m < r - length s → m < length (caption s)
+  caption-over far = elim (decLe (length (caption s)) m) [ yes g ↦ (let e = h .fits g .0 in absurd (omega (arith, e, far, g))) | no g ↦ omega arith ]
 
-  module _ (in-out : len ≤ length out) where
-    fits : length (written (caption s)) ≤ length (cells out origins)
-    fits =
-        let a = cells-most in
-        elim (decLe (length (written (caption s))) (length (cells out origins))) [ yes g ↦ g | no g ↦ (let e = h .full (omega arith) in absurd (omega (arith, a, e))) ]
+  caption-fits : r - length s ≤ m → length (caption s) ≤ m
+  caption-fits near = elim (decLe (length (caption s)) m) [ yes g ↦ g | no g ↦ (let e = h .full (omega arith) in absurd (omega (arith, e, near))) ]
 
-    caption-length : len ≡ length (caption s)
-    caption-length = h .end fits ∙ length-written (caption s)
+-- a written text's origins are zeros
+zeros-from : (more : ℕ) (x : List ℕ) → originsOf (cellsFrom (λ o. o) 0 more x) ≡ replicate (length x) 0
+unfolding cellsFrom
+zeros-from more [] = refl
+zeros-from more (b ∷ x) = ap (λ (l : List ℕ). 0 ∷ l) (zeros-from (moreAfter more (b ∷ x)) x)
 
-    caption-text : take len out ≡ caption s
-    caption-text = sym (cells-bytes len out origins in-out (omega arith)) ∙ ap textOf (h .text fits) ∙ written-bytes (caption s)
+no-origins : (k : ℕ) (x : List ℕ) → length x ≤ k → padded k (originsOf (written x)) ≡ padded k []
+unfolding written padded
+no-origins k x h =
+    let q : length x + (k - length x) ≡ k - 0 = omega arith in
+    rw (zeros-from 0 x, length-replicate {A = ℕ} (length x) 0) (replicate-append-replicate (length x) (k - length x) 0 ∙ ap (λ (i : ℕ). replicate i 0) q)
 
 -- a test that is not passed
 not-over : (a number n : ℕ) → number ≡ n → number ≤ a → ltb a n ≡ false
@@ -158,27 +151,31 @@ module _ (s : List ℕ) (m k l b number size : ℕ) (hn : number ≡ length (los
     bytes-short a h z g =
         rw z (record { answer = rw (not-over l number (length (losses s)) hn few, lt-ltb b (length (lossWords (losses s))) (rw (← hb) h)); holds = g; noted = none-noted s l LossBytesShort numbers })
 
-    module _ (small : size ≤ b) where
-      module _ (out₁ origins₁ : List ℕ) (len : ℕ) (h : Holds (cells out₁ origins₁) len (written (caption s))) (mo : length out₁ ≡ m) (enough : m ≤ length origins₁) where
-        pub no-space : (a : Attributed) → m < len → a ≡ Refused NoSpace → Holding [] [] m k b out origins bytes → Formatted s m k l b a out origins numbers bytes
-        unfolding formatted
-        no-space a far z g =
-            let over = caption-over s out₁ origins₁ len h (omega arith) (omega arith) in
-            rw z (record { answer = rw (not-over l number (length (losses s)) hn few, not-over b size (length (lossWords (losses s))) hb small, lt-ltb m (length (caption s)) (omega arith)); holds = g; noted = none-noted s l NoSpace numbers })
+    module _ (small : size ≤ b) {work₁ numbers₁ : List ℕ} {to : ℕ} (h : Captioned s m work₁ numbers₁ to) where
+      pub no-space : (a : Attributed) → m < to - length s → a ≡ Refused NoSpace → Holding [] [] m k b out origins bytes → Formatted s m k l b a out origins numbers bytes
+      unfolding formatted
+      no-space a far z g =
+          let over = caption-over s m h far in
+          rw z (record { answer = rw (not-over l number (length (losses s)) hn few, not-over b size (length (lossWords (losses s))) hb small, lt-ltb m (length (caption s)) over); holds = g; noted = none-noted s l NoSpace numbers })
 
-        pub done : {numbers₁ : List ℕ} (a : Attributed) → len ≤ m → a ≡ Done len (length (losses s)) (length (lossWords (losses s)))
-            → Holding (take len out₁) (lossWords (losses s)) m k b out origins bytes → Puts numbers₁ 0 numbers (5 * length (losses s)) (recordsOf 0 0 0 (losses s)) → 5 * length (losses s) ≤ length numbers₁
-            → Formatted s m k l b a out origins numbers bytes
-        unfolding formatted
-        done a near z g p room =
-            let e = caption-length s out₁ origins₁ len h (omega arith) (omega arith) in
-            let t = caption-text s out₁ origins₁ len h (omega arith) (omega arith) in
-            let y = p .size in
-            rw z (record {
-              answer = rw (not-over l number (length (losses s)) hn few, not-over b size (length (lossWords (losses s))) hb small, le-ltb m (length (caption s)) (omega arith), e);
-              holds = rw (← t) g;
-              noted = record { room = omega (arith, y); few = omega (arith, hn); there = p .text room };
-            })
+      pub done : (a : Attributed) → to - length s ≤ m → m ≤ k → a ≡ Done (to - length s) (length (losses s)) (length (lossWords (losses s)))
+          → LaidOut (part (length s) to (cells work₁ numbers₁)) m k out origins → Lost s numbers₁ b numbers bytes → 5 * length s ≤ length numbers₁ → Formatted s m k l b a out origins numbers bytes
+      unfolding formatted
+      done a near mk z g p room =
+          let c = caption-fits s m h near in
+          let f = h .fits c in
+          let e : to - length s ≡ length (caption s) = omega (arith, f .0) in
+          let y = p .records .size in
+          let v = f .1 in
+          rw z (record {
+            answer = rw (not-over l number (length (losses s)) hn few, not-over b size (length (lossWords (losses s))) hb small, le-ltb m (length (caption s)) c, e);
+            holds = record {
+              written = g .text ∙ ap (λ (x : List Cell). padded m (textOf x)) v ∙ ap (padded m) (written-bytes (caption s));
+              from = g .from ∙ ap (λ (x : List Cell). padded k (originsOf x)) v ∙ no-origins k (caption s) (omega (arith, c, mk));
+              lost = p .words;
+            };
+            noted = record { room = omega (arith, y, p .few, room); few = omega (arith, hn); there = p .records .text (omega (arith, p .few, room)) };
+          })
 
 -- ---- the whole call
 

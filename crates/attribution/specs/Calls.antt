@@ -10,17 +10,20 @@
 -- In code, where the losses are listed as plain numbers:
 --   lossesBy r             how many there are: none on a refusal
 --   Noted ..               the numbers then begin with theirs, five each
+--   Captioned s m ..       the caption stands in work memory behind the text, where it fits in m bytes; else the place is past them
+--   Lost ..                the losses have been listed: their numbers, and their bytes with zeros behind
 --   Formatted ..           what comes back for a text that is right, and what the slices then hold
 --   Numbered ..            the same with the refusals 1 to 4 first
 -- m, k: the lengths of the output and the origins; l, b: of the records and the loss bytes; w, n: of the work bytes and the work numbers.
 -- Assumes nothing.
 use mathlib.Core.Path.{_≡_}
-use Prim.Native.Nat.{ℕ, _*_, _≤_}
+use Prim.Native.Nat.{ℕ, _+_, _*_, _≤_, _<_}
 use mathlib.Core.Bool.{cond}
 use mathlib.Core.List.{List, [], _∷_}
 use lib.ListN.{length, take}
 use lib.Dec.{ltb}
 use Rattle.lending.specs.Lent.{numberOf, checked}
+use Rattle.text.specs.Cells.{cells, part, written}
 use Rattle.text.specs.Writes.{padded}
 use Rattle.lending.specs.declared.lent.Refusal.the-variants.{NoSpace, TooManyLosses, LossBytesShort}
 use Rattle.lending.specs.declared.lent.Spans.the-variants.{Without}
@@ -28,7 +31,7 @@ use Rattle.lending.specs.declared.lent.Lent.{Lent}
 use Rattle.lending.specs.declared.lent.Checked.{Checked}
 use Rattle.lending.specs.declared.lent.Checked.the-variants as C
 use Rattle.attribution_parts.specs.Attribution.{caption, losses}
-use Rattle.attribution_losses.specs.Lists.{recordsOf, lossWords}
+use Rattle.attribution_losses.specs.Lists.{Puts, recordsOf, lossWords}
 use Rattle.losses.specs.declared.Loss.{Loss}
 use Rattle.losses.specs.Records.{recordsLent}
 use Rattle.attribution.specs.declared.Attributed.{Attributed}
@@ -91,6 +94,15 @@ pub record Noted (s : List ℕ) (l : ℕ) (r : Attributed) (numbers : List ℕ) 
   pub room : 5 * lossesBy r ≤ length numbers
   pub few : lossesBy r ≤ l
   pub there : take (5 * lossesBy r) numbers ≡ recordsBy r s
+
+pub record Captioned (s : List ℕ) (m : ℕ) (work numbers : List ℕ) (r : ℕ) : Type 0 where
+  pub fits : length (caption s) ≤ m → (r ≡ length s + length (caption s)) × (part (length s) r (cells work numbers) ≡ written (caption s))
+  pub full : m < length (caption s) → length s + m < r
+
+pub record Lost (s numbers : List ℕ) (b : ℕ) (numbers' bytes : List ℕ) : Type 0 where
+  pub records : Puts numbers 0 numbers' (5 * length (losses s)) (recordsOf 0 0 0 (losses s))
+  pub few : length (losses s) ≤ length s
+  pub words : bytes ≡ padded b (lossWords (losses s))
 
 pub record Formatted (s : List ℕ) (m k l b : ℕ) (r : Attributed) (out origins numbers bytes : List ℕ) : Type 0 where
   pub answer : r ≡ formatted s m l b

@@ -1,33 +1,52 @@
-// The caption of an attribution: name, date and id.
+// The caption of an attribution: name, date and id. The attribution stands in the pair of slices that the caption is written into, with its joined
+// texts; both before or behind the area from a place up to `end`.
 use attribution_losses::loss::is_day;
 use attribution_reading::facts::Ends;
 use attribution_reading::facts::Field;
 use attribution_reading::facts::Fields;
 use attribution_reading::facts::read_facts;
 use day::write_day;
-use text::TextAt;
-use text::write::put;
-use text::write::put_sign;
-use text::write::put_text;
+use text::WorkAt;
+use text::area::put_in;
+use text::area::put_sign_in;
+use text::area::put_text_in;
+use text::area::put_within;
+use text::cell::RULE_BLANK;
 ghost use mathlib.Core.Path.{_≡_};
-ghost use mathlib.Core.List.{[], _∷_, _++_};
-ghost use Prim.Native.Nat.{_+_, _≤_};
-ghost use mathlib.Core.Bool.{not, _&&_, _||_};
+ghost use mathlib.Core.Bool.{true, not, _&&_, _||_};
 ghost use lib.Dec.{eqb, ltb};
+ghost use mathlib.Core.List.{[], _∷_, _++_};
+ghost use Prim.Native.Nat.{_+_, _-_, _≤_};
 ghost use lib.ListN.{length};
 ghost use Rattle.text.specs.Ascii.{ascii};
-ghost use Rattle.text.specs.Cells.{cells, written};
-ghost use Rattle.text.specs.Writes.{Appends};
+ghost use Rattle.text.specs.Cells.{written};
+ghost use Rattle.text.specs.Writes.{AppendsIn, Apart, cut};
+ghost use Rattle.day.specs.Day.{isSeconds, dayOf};
 ghost use Rattle.attribution_parts.specs.declared.Kind.the-variants.{Date, Time};
 ghost use Rattle.attribution_parts.specs.Parts.{parts};
-ghost use Rattle.attribution_parts.specs.Attribution.{isDay, within, spaced, caption, date as dateOf, id as idOf};
+ghost use Rattle.attribution_parts.specs.Attribution.{isDay, within, caption, date as dateOf};
 ghost use Rattle.attribution_reading.specs.Places.{bytes};
 ghost use Rattle.attribution_reading.specs.Reads.{FieldAt};
-ghost use Rattle.attribution_losses.specs.Captions.{named, gap, nameTexts};
+ghost use Rattle.attribution_losses.specs.Captions.{named, gap};
 ghost use Rattle.attribution_losses.specs.Lists.{Told};
+ghost use Rattle.attribution.specs.Spoken.{said, dateAndId, Spoken, NameAt};
+
+// Where an attribution stands, and its joined texts.
+pub struct Words {
+    pub from: usize,
+    pub to: usize,
+    pub joined: usize,
+    pub past: usize,
+}
+
+// Where a name stands.
+struct NamePlace {
+    from: usize,
+    to: usize,
+}
 
 // The name: where there is a name field its value, a part of the attribution; else what is kept of the joined texts.
-pub fn name<'a>(
+fn name<'a>(
     attribution: &'a [u8],
     joined: &'a [u8],
     from: usize,
@@ -44,97 +63,185 @@ pub fn name<'a>(
     &attribution[from..end]
 }
 
+// Where the name stands: as long as the part that `name` hands out, which can't be held while the slice is written.
+fn name_at(work: &[u8], w: Words, from: usize, size: usize, kept: usize) -> NamePlace
+    requires { ⌜ ((w .from ≤ w .to) × ((w .to ≤ length (now work)) × ((w .joined ≤ w .past) × (w .past ≤ length (now work))))) × ((from + size ≤ w .to - w .from) × (size ≡ 0 → kept ≤ w .past - w .joined)) ⌝ }
+    ensures { λ r. ⌜ NameAt (now (work .entry)) w from size kept (r .from) (r .to) ⌝ }
+{
+    let a = w.from;
+    let b = w.to;
+    let j = w.joined;
+    let k = w.past;
+    let words = name(&work[a..b], &work[j..k], from, size, kept);
+    let n = words.len();
+    if size == 0 {
+        return NamePlace { from: j, to: j + n };
+    }
+    NamePlace {
+        from: a + from,
+        to: a + from + n,
+    }
+}
+
 // Appends a space between two pieces, where neither is empty.
-fn put_gap(left: bool, right: bool, out: &mut [u8], origins: &mut [u32], at: TextAt) -> TextAt
-    ensures { λ r. ⌜ Appends (cells (now (out .entry)) (now (origins .entry))) (at .0) (cells (now (out .exit)) (now (origins .exit))) (r .0) (written (gap left right)) ⌝ }
+fn put_gap(
+    left: bool,
+    right: bool,
+    work: &mut [u8],
+    numbers: &mut [u32],
+    end: usize,
+    at: WorkAt,
+) -> WorkAt
+    requires { ⌜ (end ≤ length (now work)) × (end ≤ length (now numbers)) ⌝ }
+    ensures { λ r. ⌜ AppendsIn (now (work .entry)) (now (numbers .entry)) end (at .0) (now (work .exit)) (now (numbers .exit)) (r .0) (written (gap left right)) ⌝ }
 {
     if left {
         if right {
-            return put(out, origins, at, b' ', 1);
+            return put_in(work, numbers, end, at, b' ', RULE_BLANK);
         }
     }
     at
 }
 
 // Appends a text in brackets.
-fn put_bracketed(words: &[u8], out: &mut [u8], origins: &mut [u32], at: TextAt) -> TextAt
-    ensures { λ r. ⌜ Appends (cells (now (out .entry)) (now (origins .entry))) (at .0) (cells (now (out .exit)) (now (origins .exit))) (r .0) (written (ascii "(" ++ (now (words .entry) ++ ascii ")"))) ⌝ }
+fn put_bracketed(
+    words: &[u8],
+    work: &mut [u8],
+    numbers: &mut [u32],
+    end: usize,
+    at: WorkAt,
+) -> WorkAt
+    requires { ⌜ (end ≤ length (now work)) × (end ≤ length (now numbers)) ⌝ }
+    ensures { λ r. ⌜ AppendsIn (now (work .entry)) (now (numbers .entry)) end (at .0) (now (work .exit)) (now (numbers .exit)) (r .0) (written (ascii "(" ++ (now (words .entry) ++ ascii ")"))) ⌝ }
 {
-    let a = put_sign(out, origins, at, b'(');
-    let b = put_text(words, out, origins, a);
-    put_sign(out, origins, b, b')')
+    let a = put_sign_in(work, numbers, end, at, b'(');
+    let b = put_text_in(words, work, numbers, end, a);
+    put_sign_in(work, numbers, end, b, b')')
 }
 
-// Appends a space, a text and a closing bracket.
-fn put_second(words: &[u8], out: &mut [u8], origins: &mut [u32], at: TextAt) -> TextAt
-    ensures { λ r. ⌜ Appends (cells (now (out .entry)) (now (origins .entry))) (at .0) (cells (now (out .exit)) (now (origins .exit))) (r .0) (written (32 ∷ now (words .entry) ++ ascii ")")) ⌝ }
+// Appends the bytes from i up to j in brackets.
+fn put_bracketed_within(
+    work: &mut [u8],
+    numbers: &mut [u32],
+    i: usize,
+    j: usize,
+    end: usize,
+    at: WorkAt,
+) -> WorkAt
+    requires { ⌜ ((j ≤ length (now work)) × Apart i j (at .0) end) × ((end ≤ length (now work)) × (end ≤ length (now numbers))) ⌝ }
+    ensures { λ r. ⌜ AppendsIn (now (work .entry)) (now (numbers .entry)) end (at .0) (now (work .exit)) (now (numbers .exit)) (r .0) (written (ascii "(" ++ (cut i j (now (work .entry)) ++ ascii ")"))) ⌝ }
 {
-    let a = put(out, origins, at, b' ', 1);
-    let b = put_text(words, out, origins, a);
-    put_sign(out, origins, b, b')')
+    let a = put_sign_in(work, numbers, end, at, b'(');
+    let b = put_within(work, numbers, i, j, end, a);
+    put_sign_in(work, numbers, end, b, b')')
 }
 
-// Appends two texts in brackets, a space between them.
-fn put_both(date: &[u8], time: &[u8], out: &mut [u8], origins: &mut [u32], at: TextAt) -> TextAt
-    ensures { λ r. ⌜ Appends (cells (now (out .entry)) (now (origins .entry))) (at .0) (cells (now (out .exit)) (now (origins .exit))) (r .0) (written (ascii "(" ++ ((now (date .entry) ++ (32 ∷ now (time .entry))) ++ ascii ")"))) ⌝ }
+// Appends a space, the bytes from i up to j and a closing bracket.
+fn put_second(
+    work: &mut [u8],
+    numbers: &mut [u32],
+    i: usize,
+    j: usize,
+    end: usize,
+    at: WorkAt,
+) -> WorkAt
+    requires { ⌜ ((j ≤ length (now work)) × Apart i j (at .0) end) × ((end ≤ length (now work)) × (end ≤ length (now numbers))) ⌝ }
+    ensures { λ r. ⌜ AppendsIn (now (work .entry)) (now (numbers .entry)) end (at .0) (now (work .exit)) (now (numbers .exit)) (r .0) (written (32 ∷ cut i j (now (work .entry)) ++ ascii ")")) ⌝ }
 {
-    let a = put_sign(out, origins, at, b'(');
-    let b = put_text(date, out, origins, a);
-    put_second(time, out, origins, b)
+    let a = put_in(work, numbers, end, at, b' ', RULE_BLANK);
+    let b = put_within(work, numbers, i, j, end, a);
+    put_sign_in(work, numbers, end, b, b')')
+}
+
+// Appends the bytes from i up to j and those from k up to l in brackets, a space between them.
+fn put_both(
+    work: &mut [u8],
+    numbers: &mut [u32],
+    i: usize,
+    j: usize,
+    k: usize,
+    l: usize,
+    end: usize,
+    at: WorkAt,
+) -> WorkAt
+    requires { ⌜ (((j ≤ length (now work)) × Apart i j (at .0) end) × ((l ≤ length (now work)) × Apart k l (at .0) end)) × ((end ≤ length (now work)) × (end ≤ length (now numbers))) ⌝ }
+    ensures { λ r. ⌜ AppendsIn (now (work .entry)) (now (numbers .entry)) end (at .0) (now (work .exit)) (now (numbers .exit)) (r .0) (written (ascii "(" ++ ((cut i j (now (work .entry)) ++ (32 ∷ cut k l (now (work .entry)))) ++ ascii ")"))) ⌝ }
+{
+    let a = put_sign_in(work, numbers, end, at, b'(');
+    let b = put_within(work, numbers, i, j, end, a);
+    put_second(work, numbers, k, l, end, b)
+}
+
+// Appends the day of the seconds from i up to j in brackets.
+fn put_day(
+    work: &mut [u8],
+    numbers: &mut [u32],
+    i: usize,
+    j: usize,
+    end: usize,
+    at: WorkAt,
+) -> WorkAt
+    requires { ⌜ (((i ≤ j) × (j ≤ length (now work))) × (isSeconds (cut i j (now work)) ≡ true)) × ((end ≤ length (now work)) × (end ≤ length (now numbers))) ⌝ }
+    ensures { λ r. ⌜ AppendsIn (now (work .entry)) (now (numbers .entry)) end (at .0) (now (work .exit)) (now (numbers .exit)) (r .0) (written (ascii "(" ++ (dayOf (cut i j (now (work .entry))) ++ ascii ")"))) ⌝ }
+{
+    let mut ten: [u8; 10] = [0; 10];
+    let memory = &work[..];
+    write_day(&memory[i..j], &mut ten);
+    put_bracketed(&ten, work, numbers, end, at)
 }
 
 // Appends the date of the caption.
 fn put_date(
-    s: &[u8],
+    work: &mut [u8],
+    numbers: &mut [u32],
+    w: Words,
     date: Field,
     time: Field,
     day: bool,
-    out: &mut [u8],
-    origins: &mut [u32],
-    at: TextAt,
-) -> TextAt
-    requires { ⌜ FieldAt (now s) Date date × (FieldAt (now s) Time time × (day ≡ isDay (parts 0 (now s)))) ⌝ }
-    ensures { λ r. ⌜ Appends (cells (now (out .entry)) (now (origins .entry))) (at .0) (cells (now (out .exit)) (now (origins .exit))) (r .0) (written (within (ascii "(") (dateOf (parts 0 (now (s .entry)))) (ascii ")"))) ⌝ }
+    end: usize,
+    at: WorkAt,
+) -> WorkAt
+    requires { ⌜ (Spoken (now work) (at .0) end w × (FieldAt (said w (now work)) Date date × (FieldAt (said w (now work)) Time time × (day ≡ isDay (parts 0 (said w (now work))))))) × ((end ≤ length (now work)) × (end ≤ length (now numbers))) ⌝ }
+    ensures { λ r. ⌜ AppendsIn (now (work .entry)) (now (numbers .entry)) end (at .0) (now (work .exit)) (now (numbers .exit)) (r .0) (written (within (ascii "(") (dateOf (parts 0 (said w (now (work .entry))))) (ascii ")"))) ⌝ }
 {
-    let df = date.from;
+    let df = w.from + date.from;
     let de = df + date.size;
-    let tf = time.from;
+    let tf = w.from + time.from;
     let te = tf + time.size;
     if day {
-        let mut ten: [u8; 10] = [0; 10];
-        write_day(&s[tf..te], &mut ten);
-        return put_bracketed(&ten, out, origins, at);
+        return put_day(work, numbers, tf, te, end, at);
     }
     if date.size == 0 {
         if time.size == 0 {
             return at;
         }
-        return put_bracketed(&s[tf..te], out, origins, at);
+        return put_bracketed_within(work, numbers, tf, te, end, at);
     }
     if time.size == 0 {
-        return put_bracketed(&s[df..de], out, origins, at);
+        return put_bracketed_within(work, numbers, df, de, end, at);
     }
-    put_both(&s[df..de], &s[tf..te], out, origins, at)
+    put_both(work, numbers, df, de, tf, te, end, at)
 }
 
 // Appends the id of the caption.
 fn put_id(
-    s: &[u8],
+    work: &mut [u8],
+    numbers: &mut [u32],
+    w: Words,
     from: usize,
     size: usize,
-    out: &mut [u8],
-    origins: &mut [u32],
-    at: TextAt,
-) -> TextAt
-    requires { ⌜ from + size ≤ length (now s) ⌝ }
-    ensures { λ r. ⌜ Appends (cells (now (out .entry)) (now (origins .entry))) (at .0) (cells (now (out .exit)) (now (origins .exit))) (r .0) (written (within (ascii "#") (bytes (now (s .entry)) from size) [])) ⌝ }
+    end: usize,
+    at: WorkAt,
+) -> WorkAt
+    requires { ⌜ (Spoken (now work) (at .0) end w × (from + size ≤ w .to - w .from)) × ((end ≤ length (now work)) × (end ≤ length (now numbers))) ⌝ }
+    ensures { λ r. ⌜ AppendsIn (now (work .entry)) (now (numbers .entry)) end (at .0) (now (work .exit)) (now (numbers .exit)) (r .0) (written (within (ascii "#") (bytes (said w (now (work .entry))) from size) [])) ⌝ }
 {
     if size == 0 {
         return at;
     }
-    let end = from + size;
-    let a = put_sign(out, origins, at, b'#');
-    put_text(&s[from..end], out, origins, a)
+    let i = w.from + from;
+    let a = put_sign_in(work, numbers, end, at, b'#');
+    put_within(work, numbers, i, i + size, end, a)
 }
 
 fn is_dated(date: Field, time: Field) -> bool
@@ -157,59 +264,59 @@ fn has_more(dated: bool, size: usize) -> bool
 
 // Appends the date and the id.
 fn put_rest(
-    s: &[u8],
+    work: &mut [u8],
+    numbers: &mut [u32],
+    w: Words,
     fields: Fields,
     day: bool,
     ends: Ends,
-    out: &mut [u8],
-    origins: &mut [u32],
-    at: TextAt,
-) -> TextAt
-    requires { ⌜ Told (now s) fields day ends ⌝ }
-    ensures { λ r. ⌜ Appends (cells (now (out .entry)) (now (origins .entry))) (at .0) (cells (now (out .exit)) (now (origins .exit))) (r .0) (written (spaced (within (ascii "(") (dateOf (parts 0 (now (s .entry)))) (ascii ")")) (within (ascii "#") (idOf (parts 0 (now (s .entry)))) []))) ⌝ }
+    end: usize,
+    at: WorkAt,
+) -> WorkAt
+    requires { ⌜ (Spoken (now work) (at .0) end w × Told (said w (now work)) fields day ends) × ((end ≤ length (now work)) × (end ≤ length (now numbers))) ⌝ }
+    ensures { λ r. ⌜ AppendsIn (now (work .entry)) (now (numbers .entry)) end (at .0) (now (work .exit)) (now (numbers .exit)) (r .0) (written (dateAndId (parts 0 (said w (now (work .entry)))))) ⌝ }
 {
-    let a = put_date(s, fields.date, fields.time, day, out, origins, at);
+    let a = put_date(work, numbers, w, fields.date, fields.time, day, end, at);
     let dated = is_dated(fields.date, fields.time);
-    let b = put_gap(dated, 0 < ends.size, out, origins, a);
-    put_id(s, ends.from, ends.size, out, origins, b)
+    let b = put_gap(dated, 0 < ends.size, work, numbers, end, a);
+    put_id(work, numbers, w, ends.from, ends.size, end, b)
 }
 
-fn put_pieces<'a>(
-    s: &'a [u8],
-    joined: &'a [u8],
+fn put_pieces(
+    work: &mut [u8],
+    numbers: &mut [u32],
+    w: Words,
     fields: Fields,
     day: bool,
     ends: Ends,
-    out: &mut [u8],
-    origins: &mut [u32],
-    at: TextAt,
-) -> TextAt
-    requires { ⌜ Told (now s) fields day ends × (now joined ≡ nameTexts (now s)) ⌝ }
-    ensures { λ r. ⌜ Appends (cells (now (out .entry)) (now (origins .entry))) (at .0) (cells (now (out .exit)) (now (origins .exit))) (r .0) (written (caption (now (s .entry)))) ⌝ }
+    end: usize,
+    at: WorkAt,
+) -> WorkAt
+    requires { ⌜ (Spoken (now work) (at .0) end w × Told (said w (now work)) fields day ends) × ((end ≤ length (now work)) × (end ≤ length (now numbers))) ⌝ }
+    ensures { λ r. ⌜ AppendsIn (now (work .entry)) (now (numbers .entry)) end (at .0) (now (work .exit)) (now (numbers .exit)) (r .0) (written (caption (said w (now (work .entry))))) ⌝ }
 {
     let f = fields.name;
     let more = has_more(is_dated(fields.date, fields.time), ends.size);
-    let words = name(s, joined, f.from, f.size, ends.kept);
-    let left = 0 < words.len();
-    let a = put_text(words, out, origins, at);
-    let b = put_gap(left, more, out, origins, a);
-    put_rest(s, fields, day, ends, out, origins, b)
+    let words = name_at(&work[..], w, f.from, f.size, ends.kept);
+    let i = words.from;
+    let j = words.to;
+    let n = j - i;
+    let a = put_within(work, numbers, i, j, end, at);
+    let b = put_gap(0 < n, more, work, numbers, end, a);
+    put_rest(work, numbers, w, fields, day, ends, end, b)
 }
 
-// Appends the caption of an attribution; `joined` are its joined texts, where they make the name.
-pub fn put_caption<'a>(
-    attribution: &'a [u8],
-    joined: &'a [u8],
-    out: &mut [u8],
-    origins: &mut [u32],
-    at: TextAt,
-) -> TextAt
-    requires { ⌜ (length (now attribution) ≤ 1073741824) × (now joined ≡ nameTexts (now attribution)) ⌝ }
-    ensures { λ r. ⌜ Appends (cells (now (out .entry)) (now (origins .entry))) (at .0) (cells (now (out .exit)) (now (origins .exit))) (r .0) (written (caption (now (attribution .entry)))) ⌝ }
+// Appends the caption of an attribution.
+pub fn put_caption(work: &mut [u8], numbers: &mut [u32], w: Words, end: usize, at: WorkAt) -> WorkAt
+    requires { ⌜ Spoken (now work) (at .0) end w × ((end ≤ length (now work)) × (end ≤ length (now numbers))) ⌝ }
+    ensures { λ r. ⌜ AppendsIn (now (work .entry)) (now (numbers .entry)) end (at .0) (now (work .exit)) (now (numbers .exit)) (r .0) (written (caption (said w (now (work .entry))))) ⌝ }
 {
-    let facts = read_facts(attribution);
+    let a = w.from;
+    let b = w.to;
+    let memory = &work[..];
+    let facts = read_facts(&memory[a..b]);
     let fields = facts.fields;
     let ends = facts.ends;
-    let day = is_day(attribution, fields.time);
-    put_pieces(attribution, joined, fields, day, ends, out, origins, at)
+    let day = is_day(&memory[a..b], fields.time);
+    put_pieces(work, numbers, w, fields, day, ends, end, at)
 }

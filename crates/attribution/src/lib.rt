@@ -2,6 +2,7 @@
 use attribution_losses::join::join_texts;
 use attribution_losses::loss::count_losses;
 use attribution_losses::loss::put_losses;
+use caption::Words;
 use caption::put_caption;
 use lending::lent::Checked;
 use lending::lent::Lent;
@@ -11,20 +12,19 @@ use lending::lent::check;
 use losses::Loss;
 use losses::fill;
 use text::TextAt;
+use text::WorkAt;
 use text::source::set_source;
 use text::write::lay_nothing;
+use text::write::lay_part;
 use text::zero::zero8;
-use text::zero::zero32;
 ghost use mathlib.Core.Path.{_≡_};
 ghost use mathlib.Core.List.{[]};
-ghost use Prim.Native.Nat.{_+_, _-_, _*_, _≤_};
-ghost use lib.ListN.{length, take, drop};
-ghost use Rattle.text.specs.Cells.{cells, written};
-ghost use Rattle.text.specs.Writes.{Holds, Appends};
-ghost use Rattle.attribution_parts.specs.Attribution.{caption, losses};
-ghost use Rattle.attribution_losses.specs.Captions.{nameTexts};
-ghost use Rattle.attribution_losses.specs.Lists.{Puts, recordsOf, lossWords};
-ghost use Rattle.attribution.specs.Calls.{lossesBy, Holding, Called, Formatted, Numbered};
+ghost use Prim.Native.Nat.{_*_, _≤_};
+ghost use lib.ListN.{length};
+ghost use Rattle.text.specs.Bounds.{textMost, Room};
+ghost use Rattle.attribution_parts.specs.Attribution.{losses};
+ghost use Rattle.attribution_losses.specs.Lists.{lossWords};
+ghost use Rattle.attribution.specs.Calls.{lossesBy, Holding, Called, Captioned, Lost, Formatted, Numbered};
 ghost use Rattle.attribution.specs.declared.Attributed.the-variants.{Done, Refused};
 
 pub mod caption;
@@ -44,45 +44,34 @@ fn refuse(r: Refusal, out: &mut [u8], origins: &mut [u32], loss_bytes: &mut [u8]
     Attributed::Refused(r)
 }
 
-// Writes the caption of the attribution that is the first n of the work bytes, with its joined texts from n up to `end`.
-fn put_joined(n: usize, end: usize, work: &[u8], out: &mut [u8], origins: &mut [u32]) -> usize
-    requires { ⌜ ((n ≤ 262144) × ((n ≤ end) × (end ≤ length (now work)))) × (take (end - n) (drop n (now work)) ≡ nameTexts (take n (now work))) ⌝ }
-    ensures { λ r. ⌜ Appends (cells (now (out .entry)) (now (origins .entry))) 0 (cells (now (out .exit)) (now (origins .exit))) r (written (caption (take n (now (work .entry))))) ⌝ }
-{
-    let to = put_caption(&work[..n], &work[n..end], out, origins, TextAt(0));
-    to.0
-}
-
-// Writes the caption to the front of the output, its cells' numbers beside it; a place past the output's end says that it did not fit. The
-// text stands in front of the work bytes, its joined texts behind it: where these do not fit, the caption does not.
-fn set_caption(text: &[u8], out: &mut [u8], origins: &mut [u32], work: &mut [u8]) -> usize
-    requires { ⌜ (length (now text) ≤ 262144) × (length (now text) + 3 * length (now out) ≤ length (now work)) ⌝ }
-    ensures { λ r. ⌜ Holds (cells (now (out .exit)) (now (origins .exit))) r (written (caption (now (text .entry)))) ⌝ }
+// Writes the caption into work memory, from the text's length on, in the room m; a place past it says that it did not fit. The text stands before it,
+// the joined texts behind it: where these do not fit, the caption does not.
+fn set_caption(text: &[u8], m: usize, work: &mut [u8], numbers: &mut [u32]) -> WorkAt
+    requires { ⌜ Room (length (now text)) m (length (now work)) (length (now numbers)) ⌝ }
+    ensures { λ r. ⌜ Captioned (now (text .entry)) m (now (work .exit)) (now (numbers .exit)) (r .0) ⌝ }
 {
     let n = text.len();
+    let end = n + m;
     set_source(text, work);
-    let end = join_texts(work, 0, n, n);
-    if work.len() < end {
-        return end;
+    let past = join_texts(work, 0, n, end);
+    if work.len() < past {
+        return WorkAt(past);
     }
-    put_joined(n, end, work, out, origins)
+    let words = Words {
+        from: 0,
+        to: n,
+        joined: end,
+        past,
+    };
+    put_caption(work, numbers, words, end, WorkAt(n))
 }
 
-// Lists the losses and clears what is not used, the first `len` bytes of the output being the caption.
-fn finish(
-    text: &[u8],
-    len: usize,
-    out: &mut [u8],
-    origins: &mut [u32],
-    loss_bytes: &mut [u8],
-    numbers: &mut [u32],
-) -> Attributed
-    requires { ⌜ ((length (now text) ≤ 262144) × (len ≤ length (now out))) × ((5 * length (now text) ≤ length (now numbers)) × (length (lossWords (losses (now text))) ≤ length (now «loss_bytes»))) ⌝ }
-    ensures { λ a. ⌜ (a ≡ Done len (length (losses (now (text .entry)))) (length (lossWords (losses (now (text .entry)))))) × (Holding (take len (now (out .entry))) (lossWords (losses (now (text .entry)))) (length (now (out .entry))) (length (now (origins .entry))) (length (now («loss_bytes» .entry))) (now (out .exit)) (now (origins .exit)) (now («loss_bytes» .exit)) × (Puts (now (numbers .entry)) 0 (now (numbers .exit)) (5 * length (losses (now (text .entry)))) (recordsOf 0 0 0 (losses (now (text .entry)))) × (length (losses (now (text .entry))) ≤ length (now (text .entry))))) ⌝ }
+// Lists the losses, where the caption has `len` bytes.
+fn finish(text: &[u8], len: usize, loss_bytes: &mut [u8], numbers: &mut [u32]) -> Attributed
+    requires { ⌜ (length (now text) ≤ textMost) × ((5 * length (now text) ≤ length (now numbers)) × (length (lossWords (losses (now text))) ≤ length (now «loss_bytes»))) ⌝ }
+    ensures { λ a. ⌜ (a ≡ Done len (length (losses (now (text .entry)))) (length (lossWords (losses (now (text .entry)))))) × Lost (now (text .entry)) (now (numbers .entry)) (length (now («loss_bytes» .entry))) (now (numbers .exit)) (now («loss_bytes» .exit)) ⌝ }
 {
     let c = put_losses(text, 0, 0, numbers, 0, loss_bytes, 0);
-    zero8(out, TextAt(len));
-    zero32(origins, TextAt(0));
     zero8(loss_bytes, TextAt(c.bytes));
     Attributed::Done(len, c.losses, c.bytes)
 }
@@ -97,7 +86,7 @@ fn format(
     work: &mut [u8],
     numbers: &mut [u32],
 ) -> Attributed
-    requires { ⌜ ((length (now text) ≤ 262144) × (length (now out) ≤ length (now origins))) × ((length (now text) + 3 * length (now out) ≤ length (now work)) × (5 * length (now text) ≤ length (now numbers))) ⌝ }
+    requires { ⌜ Room (length (now text)) (length (now out)) (length (now work)) (length (now numbers)) × (length (now out) ≤ length (now origins)) ⌝ }
     ensures { λ a. ⌜ Formatted (now (text .entry)) (length (now (out .entry))) (length (now (origins .entry))) lent (length (now («loss_bytes» .entry))) a (now (out .exit)) (now (origins .exit)) (now (numbers .exit)) (now («loss_bytes» .exit)) ⌝ }
 {
     let c = count_losses(text);
@@ -107,11 +96,14 @@ fn format(
     if loss_bytes.len() < c.bytes {
         return refuse(Refusal::LossBytesShort, out, origins, loss_bytes);
     }
-    let len = set_caption(text, out, origins, work);
+    let n = text.len();
+    let to = set_caption(text, out.len(), work, numbers);
+    let len = to.0 - n;
     if out.len() < len {
         return refuse(Refusal::NoSpace, out, origins, loss_bytes);
     }
-    finish(text, len, out, origins, loss_bytes, numbers)
+    lay_part(work, numbers, WorkAt(n), to, out, origins);
+    finish(text, len, loss_bytes, numbers)
 }
 
 // An attribution alone, where `lent` records are lent: document 01's refusals 1 to 4, then 7, 8, 6. Its losses are listed as plain numbers.

@@ -1,3 +1,4 @@
 pub mod Listing
 pub mod Losing
 pub mod Joining
+pub mod Bounds

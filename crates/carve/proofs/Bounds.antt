@@ -36,7 +36,8 @@ use Rattle.post.specs.declared.Posted.{Posted}
 use Rattle.post.specs.declared.Posted.the-variants as P
 use Rattle.post.specs.Calls as Post
 use Rattle.carve.specs.Counts.{Countable}
-use Rattle.carve.proofs.Losing.{losses-small, quote-losses-small}
+use Rattle.attribution_losses.proofs.Bounds.{losses-small}
+use Rattle.quote_losses.proofs.Bounds.{quote-losses-small}
 use Rattle.mark_tags.specs.Marks.{marks, merge, no-kinds, items, start}
 use Rattle.mark_writing.proofs.MarkWriting.{spans-few}
 use Rattle.marks.proofs.Counting.{marks-third}

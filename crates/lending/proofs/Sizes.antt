@@ -8,7 +8,8 @@ use lib.ListN.{length}
 use lib.Dec.{leb}
 use borrow.Author.Tests.{leb-true}
 use Rattle.text.proofs.Bytes.{both}
-use Rattle.lending.specs.Lent.{textMost, outMost, spansRight, sizesRight, checked}
+use Rattle.text.specs.Bounds.{textMost, outMost}
+use Rattle.lending.specs.Lent.{spansRight, sizesRight, checked}
 use Rattle.lending.specs.declared.lent.Refusal.{Refusal}
 use Rattle.lending.specs.declared.lent.Lent.{Lent}
 use Rattle.lending.specs.declared.lent.Checked.{Checked}

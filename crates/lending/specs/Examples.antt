@@ -1,4 +1,5 @@
 -- Worked facts about the definitions, proved by computation. Assumes nothing.
+use Rattle.text.specs.Bounds.{textMost}
 use mathlib.Core.Path.{_≡_, refl}
 use mathlib.Core.Bool.{true, false}
 use mathlib.Core.List.{List, [], _∷_}
@@ -108,6 +109,6 @@ unfolding A.computes U.computes N.computes
 return-refused = refl
 
 -- by the length alone, whatever is lent
-too-long : (text : List ℕ) (l : Lent) → length text ≡ N.textMost + 1 → N.checked text l ≡ Refused TextTooLong
+too-long : (text : List ℕ) (l : Lent) → length text ≡ textMost + 1 → N.checked text l ≡ Refused TextTooLong
 unfolding N.checked
 too-long text l e = rw e

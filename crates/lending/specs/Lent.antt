@@ -1,15 +1,15 @@
 -- Document 01, "Lent memory and turned-back calls": what every operation that reads a text tests first.
---   textMost, outMost     a text's and an output's greatest length
 --   numberOf r            document 01's number of a refusal
 --   sizesRight n lent     the lent sizes are right for a text of n bytes: refusal 2 where they are not
 --   zeroOrReturn b        a byte 0 or 13: refusal 4 where one is present
 --   checked text lent     the first of the refusals 1 to 4 that applies
 -- Assumes nothing.
-use Prim.Native.Nat.{ℕ, _+_, _*_, _/_}
+use Prim.Native.Nat.{ℕ, _*_, _/_}
 use mathlib.Core.Bool.{Bool, true, false, cond, _&&_, _||_}
 use mathlib.Core.List.{List, [], _∷_}
 use lib.ListN.{length}
 use lib.Dec.{eqb, leb}
+use Rattle.text.specs.Bounds.{textMost, outMost, workSize, numbersSize}
 use Rattle.lending.specs.Utf8.{utf8}
 use Rattle.lending.specs.declared.lent.Refusal.{Refusal}
 use Rattle.lending.specs.declared.lent.Refusal.the-variants.{TextTooLong, SizesWrong, NotUtf8, ZeroOrReturn, TooDeep, NoSpace, TooManyLosses, LossBytesShort, NotSeconds}
@@ -18,12 +18,6 @@ use Rattle.lending.specs.declared.lent.Spans.the-variants.{Without, Of}
 use Rattle.lending.specs.declared.lent.Lent.{Lent}
 use Rattle.lending.specs.declared.lent.Checked.{Checked}
 use Rattle.lending.specs.declared.lent.Checked.the-variants.{Fine, Refused}
-
-abbrev pub textMost : ℕ
-textMost = 262144
-
-abbrev pub outMost : ℕ
-outMost = 16777216
 
 abbrev pub numberOf : Refusal → ℕ
 numberOf TextTooLong = 1
@@ -45,8 +39,8 @@ unfoldable pub sizesRight : (n : ℕ) → Lent → Bool
 sizesRight n lent =
     leb (lent .out) outMost
     && leb (lent .out) (lent .origins)
-    && leb (n + 3 * lent .out) (lent .work)
-    && leb (8 * n + 3 * lent .out + 64) (lent .numbers)
+    && leb (workSize n (lent .out)) (lent .work)
+    && leb (numbersSize n (lent .out)) (lent .numbers)
     && spansRight n (lent .spans)
 
 unfoldable pub zeroOrReturn : ℕ → Bool

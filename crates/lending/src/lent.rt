@@ -1,6 +1,10 @@
 // What is lent, and the refusals 1 to 4 that every operation on a text begins with (document 01, "Lent memory and turned-back calls").
 use crate::utf8::char_size;
 use crate::utf8::is_utf8;
+use text::bounds::OUT_MOST;
+use text::bounds::TEXT_MOST;
+use text::bounds::numbers_size;
+use text::bounds::work_size;
 use text::scan::first_in_16;
 use text::scan::stands_in_16;
 ghost use mathlib.Core.Path.{_≡_};
@@ -9,13 +13,9 @@ ghost use Prim.Native.Nat.{ℕ, _+_, _≤_, _<_};
 ghost use lib.ListN.{length, getD, drop};
 ghost use lib.Dec.{leb};
 ghost use Rattle.text.specs.Ascii.{toFirst};
+ghost use Rattle.text.specs.Bounds.{textMost};
 ghost use Rattle.lending.specs.Utf8.{utf8};
 ghost use Rattle.lending.specs.Lent.{numberOf, spansRight, sizesRight, zeroOrReturn, anyZeroOrReturn, checked};
-
-// A text's greatest length, and an output's.
-pub const TEXT_MOST: usize = 262144;
-
-pub const OUT_MOST: usize = 16777216;
 
 pub enum Refusal {
     TextTooLong,
@@ -76,7 +76,7 @@ fn spans_right(n: usize, spans: Spans) -> bool
 }
 
 fn sizes_right(n: usize, lent: Lent) -> bool
-    requires { ⌜ n ≤ 262144 ⌝ }
+    requires { ⌜ n ≤ textMost ⌝ }
     ensures { λ r. ⌜ r ≡ sizesRight n lent ⌝ }
 {
     let m = lent.out;
@@ -86,10 +86,10 @@ fn sizes_right(n: usize, lent: Lent) -> bool
     if lent.origins < m {
         return false;
     }
-    if lent.work < n + 3 * m {
+    if lent.work < work_size(n, m) {
         return false;
     }
-    if lent.numbers < 8 * n + 3 * m + 64 {
+    if lent.numbers < numbers_size(n, m) {
         return false;
     }
     let spans = lent.spans;

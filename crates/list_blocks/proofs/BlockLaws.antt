@@ -11,8 +11,8 @@ use Rattle.text.specs.Ascii.{isEmpty}
 use Rattle.text.specs.Cells.{Cell, cells, part, feed}
 use Rattle.text.specs.Lines.{trimStart, trimOnto, trimEnd, trim, lines, followed, joined}
 use Rattle.text.specs.Writes.{Appends}
-use Rattle.text.proofs.Writing.{appends-none, appends-then, part-none, part-cons, Writing, more, done}
-use Rattle.list_blocks.specs.Blocks.{space, marker, trimItem, laterLine, indented, marked, itemText, itemTexts, leadOnto, block, trimmed, between, headOr, partsIn, Rises, heldBack, Blocked}
+use Rattle.text.proofs.Writing.{appends-none, appends-then, part-none, part-cons}
+use Rattle.list_blocks.specs.Blocks.{space, trimItem, laterLine, indented, marked, itemText, itemTexts, leadOnto, block, trimmed, between, headOr, partsIn, Rises, heldBack}
 use Rattle.list_blocks.proofs.ItemLaws as I
 use Rattle.list_blocks.proofs.ItemLaws.{Solid, Good, Ended, nothing, something, ended, solid-some, solid-append, good, lines-item, trimItem-lines, solid-joined}
 
@@ -101,8 +101,15 @@ pub trim-part : (w : List Cell) (a e i j : ℕ) → part i e w ≡ trimStart (pa
 unfolding trim
 trim-part w a e i j p q = q ∙ ap trimEnd p
 
+-- an item's text t before others, over lists of cells: what is certain of it has been appended, and held' line feeds are held back in place of held
+pub record BlockedCells (v : List Cell) (at : ℕ) (v' : List Cell) (at' : ℕ) (t : List Cell) (held held' : ℕ) : Type 0 where
+  pub past : List Cell
+  pub wrote : Appends v at v' at' past
+  pub rest : (texts : List (List Cell)) → heldBack held (t ∷ texts) ≡ past ++ heldBack held' texts
+  pub few : held' ≤ held + 1
+
 pub blocked-empty : {v : List Cell} {at : ℕ} (mark x : List Cell) (held i j : ℕ) (w : List Cell) → part i j w ≡ trim x → i ≡ j
-    → Blocked v at v at (itemText mark x) held (held + 1)
+    → BlockedCells v at v at (itemText mark x) held (held + 1)
 unfolding itemText trimmed lines
 blocked-empty {v} {at} mark x held i j w q e =
     let n : trim x ≡ [] = sym q ∙ rw e (part-none j w) in
@@ -111,7 +118,7 @@ blocked-empty {v} {at} mark x held i j w q e =
 
 pub blocked-item : {v v₁ v₂ : List Cell} {at to r : ℕ} (mark x : List Cell) (held i j : ℕ) (bs ns : List ℕ) → part i j (cells bs ns) ≡ trim x
     → i < j → j ≤ length bs → j ≤ length ns → Appends v at v₁ to (replicate held feed) → Appends v₁ to v₂ r (marked mark (trimmed (part i j (cells bs ns))))
-    → Blocked v at v₂ r (itemText mark x) held 1
+    → BlockedCells v at v₂ r (itemText mark x) held 1
 unfolding itemText
 blocked-item mark x held i j bs ns q lt hb hn p s =
     let some : isEmpty (trim x) ≡ false = rw (← q, part-cons bs ns i j lt hb hn) in
@@ -170,20 +177,6 @@ parts-cons k last e ns w lt h = rw (between-cons k last ns lt h)
 -- what is still to be written
 abbrev pub toWrite : (o s : Bool) (held index k last e : ℕ) (ns : List ℕ) → List Cell → List Cell
 toWrite o s held index k last e ns w = heldBack held (itemTexts o s index (partsIn w (between k last ns) e))
-
-pub items-turn : {v v₁ v₂ whole : List Cell} {at to r : ℕ} (o s : Bool) (held held' index k last e a j : ℕ) (ns : List ℕ) (w : List Cell)
-    → k < last → last ≤ length ns → a ≡ getD ns k 0 → j ≡ headOr e (between (k + 1) last ns)
-    → Writing v at v₁ to (toWrite o s held index k last e ns w) whole
-    → Blocked v₁ to v₂ r (itemText (marker o s index) (part a j w)) held held'
-    → Writing v at v₂ r (toWrite o s held' (index + 1) (k + 1) last e ns w) whole
-unfolding itemTexts
-items-turn o s held held' index k last e a j ns w lt h qa qj p b =
-    more p (ap (λ (l : List (List Cell)). heldBack held (itemTexts o s index l)) (parts-cons k last e ns w lt h) ∙ rw (← qa, ← qj, add-one index) (b .rest (itemTexts o s (suc index) (partsIn w (between (k + 1) last ns) e)))) (b .wrote)
-
-pub items-done : {v v' whole : List Cell} {at to : ℕ} (o s : Bool) (held index k last e : ℕ) (ns : List ℕ) (w : List Cell) → last ≤ k
-    → Writing v at v' to (toWrite o s held index k last e ns w) whole → Appends v at v' to whole
-unfolding itemTexts partsIn
-items-done o s held index k last e ns w h p = done p (rw (between-end k last ns h) (held-done held))
 
 -- ---- a block
 

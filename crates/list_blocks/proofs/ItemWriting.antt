@@ -8,7 +8,7 @@ use Rattle.text.specs.Ascii.{isEmpty}
 use Rattle.text.specs.Cells.{Cell, cell, cells, part, feed}
 use Rattle.text.specs.Lines.{trimEnd, lineOnto, lines, isFeed, followed, joined}
 use Rattle.text.specs.Writes.{Appends}
-use Rattle.text.proofs.Writing.{appends-then, part-none, part-end, part-cons, Writing, more, done}
+use Rattle.text.proofs.Writing.{appends-then, part-none, part-cons}
 use Rattle.list_blocks.specs.Blocks.{space, laterLine, indented, marked, trimmed}
 
 -- ---- a line after the first
@@ -39,16 +39,6 @@ trimmed-next w a r e q = rw q
 -- all lines from a place on, each behind a line feed
 abbrev pub laterFrom : (width i e : ℕ) → List Cell → List Cell
 laterFrom width i e w = followed (map (laterLine width) (trimmed (part i e w)))
-
-pub later-turn : {v v₁ v₂ whole : List Cell} {at to r : ℕ} (width i j e : ℕ) (w : List Cell) → lines (part i e w) ≡ part i j w ∷ lines (part (j + 1) e w)
-    → Writing v at v₁ to (laterFrom width i e w) whole → Appends v₁ to v₂ r (feed ∷ laterLine width (trimEnd (part i j w)))
-    → Writing v at v₂ r (laterFrom width (j + 1) e w) whole
-unfolding followed
-later-turn width i j e w q p a = more p (rw (trimmed-next w i j e q)) a
-
-pub later-done : {v v' whole : List Cell} {at to : ℕ} (width i e : ℕ) (w : List Cell) → e ≤ i → Writing v at v' to (laterFrom width i e w) whole → Appends v at v' to whole
-unfolding followed trimmed lines
-later-done width i e w h p = done p (rw (part-end i e w h))
 
 pub lines-first : {v v₁ v₂ : List Cell} {at to r : ℕ} (width a j e y : ℕ) (w : List Cell) → lines (part a e w) ≡ part a j w ∷ lines (part (j + 1) e w)
     → part a y w ≡ trimEnd (part a j w) → Appends v at v₁ to (part a y w) → Appends v₁ to v₂ r (laterFrom width (j + 1) e w)

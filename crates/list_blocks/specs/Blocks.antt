@@ -7,6 +7,7 @@
 --   partsIn w ss e     the parts of w that begin at the places ss, up to place e
 --   Rises ss e         each of these places is at most the next, and e
 --   Blocked ..         an item has been appended, or held back
+--   Tabled ..          a table of parts stands where a block can be written by it
 -- Assumes nothing.
 use mathlib.Core.Path.{_≡_}
 use Prim.Native.Nat.{ℕ, suc, _+_, _≤_}
@@ -14,10 +15,10 @@ use mathlib.Core.Bool.{Bool, true, false, cond}
 use mathlib.Core.List.{List, [], _∷_, _++_, map}
 use Prim.Native.Char.{code}
 use lib.ListN.{length, take, drop, replicate}
-use Rattle.text.specs.Cells.{Cell, feed, sign, part}
+use Rattle.text.specs.Cells.{Cell, cells, feed, sign, part}
 use Rattle.text.specs.Lines.{trim, trimEnd, lines, joined}
 use Rattle.text.specs.Decimal.{decimal}
-use Rattle.text.specs.Writes.{Appends}
+use Rattle.text.specs.Writes.{AppendsIn, Apart}
 
 -- the space that a rule writes
 abbrev pub space : Cell
@@ -88,13 +89,28 @@ Rises (a ∷ ss) e = (a ≤ headOr e ss) × Rises ss e
 unfoldable pub heldBack : (held : ℕ) → List (List Cell) → List Cell
 heldBack held texts = trimEnd (replicate held feed ++ joined texts)
 
--- an item's text t before others: from v at `at` to v' at `at'`, what is certain of it has been appended, and held' line feeds are
--- held back in place of held
-pub record Blocked (v : List Cell) (at : ℕ) (v' : List Cell) (at' : ℕ) (t : List Cell) (held held' : ℕ) : Type 0 where
+-- an item's text t before others: in the area before `end` of a pair of slices, from `at` to `at'`, what is certain of it has been appended,
+-- and held' line feeds are held back in place of held
+pub record Blocked (bs ns : List ℕ) (end at : ℕ) (bs' ns' : List ℕ) (at' : ℕ) (t : List Cell) (held held' : ℕ) : Type 0 where
   pub past : List Cell
-  pub wrote : Appends v at v' at' past
+  pub wrote : AppendsIn bs ns end at bs' ns' at' past
   pub rest : (texts : List (List Cell)) → heldBack held (t ∷ texts) ≡ past ++ heldBack held' texts
   pub few : held' ≤ held + 1
+
+-- the table of parts from place k up to place last, which end by e, before the place `at` of an area that ends before `end`; the table
+-- stands outside of the area
+pub record Tabled (bs ns : List ℕ) (k last e end at : ℕ) : Type 0 where
+  pub table : (last ≤ length ns) × Apart k last at end
+  pub rises : Rises (between k last ns) e
+  pub parts : (e ≤ at) × (e ≤ end)
+  pub fits : (end ≤ length bs) × (end ≤ length ns)
+
+-- of the parts by the table: the items behind line feeds held back, and the block
+abbrev pub itemsAt : (bs ns : List ℕ) (k last e : ℕ) (ordered second : Bool) (held : ℕ) → List Cell
+itemsAt bs ns k last e ordered second held = heldBack held (itemTexts ordered second 1 (partsIn (cells bs ns) (between k last ns) e))
+
+abbrev pub blockAt : (bs ns : List ℕ) (k last e : ℕ) (ordered second : Bool) → List Cell
+blockAt bs ns k last e ordered second = block ordered second (partsIn (cells bs ns) (between k last ns) e)
 
 -- all of this module, for `unfolding` where a closed text is to be computed
 unfoldable pub computes : Unit {0}

@@ -3,9 +3,9 @@
 --   isOne v        a trimmed value is `1`
 --   tagAt x        the tag that the text x begins with
 --   tokens skip x  a text from left to right, each token with the cells that spell it; the first `skip` cells are the rest of a tag
+--   pushes ks      how many numbers the tokens ks push on the table of open lists: 3 for an opener, 1 for an item
 --   takenLists x   what lists take out of a text: each opener, and each `[*]` and `[/list]` that counts, as they do inside a list only
---   listsMost      how many lists may be open
---   tooDeep x      an opener is met while so many are open
+--   tooDeep x      an opener is met while as many lists are open as may be
 -- Assumes nothing.
 use mathlib.Core.Path.{_≡_}
 use Prim.Native.Nat.{ℕ, zero, suc, _+_, _≤_}
@@ -14,6 +14,7 @@ use mathlib.Core.List.{List, [], _∷_, _++_}
 use lib.ListN.{length, take, drop}
 use lib.Dec.{leb, ltb}
 use Rattle.text.specs.Ascii.{ascii, is, begins, toBracket}
+use Rattle.text.specs.Bounds.{deepMost}
 use Rattle.text.specs.Cells.{Cell, bytes}
 use Rattle.text.specs.Lines.{trimStart, trim}
 use Rattle.list_blocks.specs.declared.tag.Tag.{Tag}
@@ -73,6 +74,18 @@ tokens skip [] = []
 tokens (suc skip) (c ∷ x) = tokens skip x
 tokens zero (c ∷ x) = tokenOf (tagAt (c ∷ x)) c x ∷ tokens (restOf (tagAt (c ∷ x))) x
 
+-- ---- what is pushed
+
+abbrev pub pushedBy : Token → ℕ
+pushedBy (text c) = 0
+pushedBy (opens tag o) = 3
+pushedBy (starts tag) = 1
+pushedBy (closes tag) = 0
+
+unfoldable pub pushes : List Token → ℕ
+pushes [] = 0
+pushes (t ∷ r) = pushedBy t + pushes r
+
 -- ---- what is taken out, and the limit, where `depth` lists are open
 
 unfoldable pub takenBy : (depth : ℕ) → Token → List Cell
@@ -97,12 +110,9 @@ taken depth (t ∷ r) = takenBy depth t ++ taken (depthAfter depth t) r
 unfoldable pub takenLists : List Cell → List Cell
 takenLists x = taken 0 (tokens 0 x)
 
-abbrev pub listsMost : ℕ
-listsMost = 64
-
 abbrev pub overLimit : (depth : ℕ) → Token → Bool
 overLimit depth (text c) = false
-overLimit depth (opens tag o) = leb listsMost depth
+overLimit depth (opens tag o) = leb deepMost depth
 overLimit depth (starts tag) = false
 overLimit depth (closes tag) = false
 
@@ -115,5 +125,5 @@ tooDeep x = deeper 0 (tokens 0 x)
 
 -- all of this module, for `unfolding` where a closed text is to be computed
 unfoldable pub computes : Unit {0}
-unfolding valueOf valued tagAt tokens takenBy depthAfter taken takenLists deeper tooDeep
+unfolding valueOf valued tagAt tokens pushes takenBy depthAfter taken takenLists deeper tooDeep
 computes = tt

@@ -1,48 +1,27 @@
-// The writers of an item.
-use text::PostAt;
-use text::TextAt;
+// The writers of an item: into an area of the slices that it stands in, behind it.
+use text::WorkAt;
+use text::area::copy_within;
+use text::area::put_feed_in;
+use text::area::put_in;
+use text::area::put_sign_in;
+use text::cell::RULE_BLANK;
 use text::trim::line_end;
 use text::trim::trim_end;
-use text::write::copy;
-use text::write::put;
-use text::write::put_decimal;
-use text::write::put_feed;
-use text::write::put_sign;
 ghost use mathlib.Core.Path.{_≡_};
 ghost use mathlib.Core.Bool.{cond};
 ghost use mathlib.Core.List.{_∷_, map};
 ghost use Prim.Native.Nat.{_+_, _≤_, _<_};
 ghost use lib.ListN.{length, replicate};
-ghost use Rattle.text.specs.Cells.{cells, part, feed};
+ghost use Rattle.text.specs.Cells.{cells, part, feed, sign};
 ghost use Rattle.text.specs.Lines.{trimEnd, followed, joined};
 ghost use Rattle.text.specs.Decimal.{decimal};
-ghost use Rattle.text.specs.Writes.{Appends};
+ghost use Rattle.text.specs.Writes.{AppendsIn};
 ghost use Rattle.list_blocks.specs.Blocks.{space, marker, laterLine, indented, marked, trimmed};
 
-// Appends line feeds.
-pub fn put_feeds(n: usize, buf: &mut [u8], nums: &mut [u32], at: TextAt) -> TextAt
-    ensures { λ r. ⌜ Appends (cells (now (buf .entry)) (now (nums .entry))) (at .0) (cells (now (buf .exit)) (now (nums .exit))) (r .0) (replicate n feed) ⌝ }
-{
-    let mut k: usize = 0;
-    let mut to = at;
-    while k < n {
-        to = put_feed(buf, nums, to);
-        k += 1;
-    }
-    to
-}
-
-// Appends spaces that a rule writes.
-fn put_spaces(n: usize, buf: &mut [u8], nums: &mut [u32], at: TextAt) -> TextAt
-    ensures { λ r. ⌜ Appends (cells (now (buf .entry)) (now (nums .entry))) (at .0) (cells (now (buf .exit)) (now (nums .exit))) (r .0) (replicate n space) ⌝ }
-{
-    let mut k: usize = 0;
-    let mut to = at;
-    while k < n {
-        to = put(buf, nums, to, b' ', 1);
-        k += 1;
-    }
-    to
+// A list's kind: whether it is ordered, and whether it has the second marker of the two.
+pub struct Kind {
+    pub ordered: bool,
+    pub second: bool,
 }
 
 // How many digits a number has.
@@ -56,10 +35,10 @@ fn digits(n: u32) -> usize
 }
 
 // How wide a marker is.
-pub fn marker_width(ordered: bool, second: bool, index: u32) -> usize
-    ensures { λ r. ⌜ r ≡ length (marker ordered second index) ⌝ }
+fn marker_width(kind: Kind, index: u32) -> usize
+    ensures { λ r. ⌜ r ≡ length (marker (kind .ordered) (kind .second) index) ⌝ }
 {
-    if ordered {
+    if kind.ordered {
         return digits(index) + 2;
     }
     2
@@ -75,72 +54,111 @@ fn marker_sign(second: bool, one: u8, other: u8) -> u8
     one
 }
 
-// Appends a marker.
-pub fn put_marker(
-    ordered: bool,
-    second: bool,
-    index: u32,
-    buf: &mut [u8],
-    nums: &mut [u32],
-    at: TextAt,
-) -> TextAt
-    ensures { λ r. ⌜ Appends (cells (now (buf .entry)) (now (nums .entry))) (at .0) (cells (now (buf .exit)) (now (nums .exit))) (r .0) (marker ordered second index) ⌝ }
+// Appends line feeds.
+pub fn put_feeds(n: usize, work: &mut [u8], numbers: &mut [u32], end: usize, at: WorkAt) -> WorkAt
+    requires { ⌜ (end ≤ length (now work)) × (end ≤ length (now numbers)) ⌝ }
+    ensures { λ r. ⌜ AppendsIn (now (work .entry)) (now (numbers .entry)) end (at .0) (now (work .exit)) (now (numbers .exit)) (r .0) (replicate n feed) ⌝ }
 {
-    if ordered {
-        let x = put_decimal(index, buf, nums, at);
-        let y = put_sign(buf, nums, x, marker_sign(second, b'.', b')'));
-        return put(buf, nums, y, b' ', 1);
+    let mut k: usize = 0;
+    let mut to = at;
+    while k < n {
+        to = put_feed_in(work, numbers, end, to);
+        k += 1;
     }
-    let z = put_sign(buf, nums, at, marker_sign(second, b'-', b'*'));
-    put(buf, nums, z, b' ', 1)
+    to
+}
+
+// Appends spaces that a rule writes.
+fn put_spaces(n: usize, work: &mut [u8], numbers: &mut [u32], end: usize, at: WorkAt) -> WorkAt
+    requires { ⌜ (end ≤ length (now work)) × (end ≤ length (now numbers)) ⌝ }
+    ensures { λ r. ⌜ AppendsIn (now (work .entry)) (now (numbers .entry)) end (at .0) (now (work .exit)) (now (numbers .exit)) (r .0) (replicate n space) ⌝ }
+{
+    let mut k: usize = 0;
+    let mut to = at;
+    while k < n {
+        to = put_in(work, numbers, end, to, b' ', RULE_BLANK);
+        k += 1;
+    }
+    to
+}
+
+// Appends a number in decimal.
+fn put_decimal(n: u32, work: &mut [u8], numbers: &mut [u32], end: usize, at: WorkAt) -> WorkAt
+    requires { ⌜ (end ≤ length (now work)) × (end ≤ length (now numbers)) ⌝ }
+    ensures { λ r. ⌜ AppendsIn (now (work .entry)) (now (numbers .entry)) end (at .0) (now (work .exit)) (now (numbers .exit)) (r .0) (map sign (decimal n)) ⌝ }
+{
+    if n < 10 {
+        return put_sign_in(work, numbers, end, at, (48 + n) as u8);
+    }
+    let front = put_decimal(n / 10, work, numbers, end, at);
+    put_sign_in(work, numbers, end, front, (48 + n % 10) as u8)
+}
+
+// Appends a marker.
+fn put_marker(
+    kind: Kind,
+    index: u32,
+    work: &mut [u8],
+    numbers: &mut [u32],
+    end: usize,
+    at: WorkAt,
+) -> WorkAt
+    requires { ⌜ (end ≤ length (now work)) × (end ≤ length (now numbers)) ⌝ }
+    ensures { λ r. ⌜ AppendsIn (now (work .entry)) (now (numbers .entry)) end (at .0) (now (work .exit)) (now (numbers .exit)) (r .0) (marker (kind .ordered) (kind .second) index) ⌝ }
+{
+    if kind.ordered {
+        let x = put_decimal(index, work, numbers, end, at);
+        let y = put_sign_in(work, numbers, end, x, marker_sign(kind.second, b'.', b')'));
+        return put_in(work, numbers, end, y, b' ', RULE_BLANK);
+    }
+    let z = put_sign_in(work, numbers, end, at, marker_sign(kind.second, b'-', b'*'));
+    put_in(work, numbers, end, z, b' ', RULE_BLANK)
 }
 
 // Appends a line feed and a line after an item's first, its end trimmed.
 fn put_later(
-    src: &[u8],
-    from: &[u32],
-    a: PostAt,
-    e: PostAt,
+    work: &mut [u8],
+    numbers: &mut [u32],
+    a: WorkAt,
+    e: WorkAt,
     width: usize,
-    buf: &mut [u8],
-    nums: &mut [u32],
-    at: TextAt,
-) -> TextAt
-    requires { ⌜ (a .0 ≤ e .0) × ((e .0 ≤ length (now src)) × (e .0 ≤ length (now from))) ⌝ }
-    ensures { λ r. ⌜ Appends (cells (now (buf .entry)) (now (nums .entry))) (at .0) (cells (now (buf .exit)) (now (nums .exit))) (r .0) (feed ∷ laterLine width (trimEnd (part (a .0) (e .0) (cells (now (src .entry)) (now (from .entry)))))) ⌝ }
+    end: usize,
+    at: WorkAt,
+) -> WorkAt
+    requires { ⌜ ((a .0 ≤ e .0) × (e .0 ≤ at .0)) × ((e .0 ≤ end) × ((end ≤ length (now work)) × (end ≤ length (now numbers)))) ⌝ }
+    ensures { λ r. ⌜ AppendsIn (now (work .entry)) (now (numbers .entry)) end (at .0) (now (work .exit)) (now (numbers .exit)) (r .0) (feed ∷ laterLine width (trimEnd (part (a .0) (e .0) (cells (now (work .entry)) (now (numbers .entry)))))) ⌝ }
 {
     let i = a.0;
-    let end = trim_end(src, from, a, e);
-    let j = end.0;
-    let x = put_feed(buf, nums, at);
+    let last = trim_end(&work[..], &numbers[..], a, e);
+    let j = last.0;
+    let x = put_feed_in(work, numbers, end, at);
     if i == j {
         return x;
     }
-    let y = put_spaces(width, buf, nums, x);
-    copy(src, from, PostAt(i), end, buf, nums, y)
+    let y = put_spaces(width, work, numbers, end, x);
+    copy_within(work, numbers, WorkAt(i), last, end, y)
 }
 
 // Appends all lines after an item's first.
 fn put_later_lines(
-    src: &[u8],
-    from: &[u32],
-    a: PostAt,
-    e: PostAt,
+    work: &mut [u8],
+    numbers: &mut [u32],
+    a: WorkAt,
+    e: WorkAt,
     width: usize,
-    buf: &mut [u8],
-    nums: &mut [u32],
-    at: TextAt,
-) -> TextAt
-    requires { ⌜ (e .0 ≤ length (now src)) × (e .0 ≤ length (now from)) ⌝ }
-    ensures { λ r. ⌜ Appends (cells (now (buf .entry)) (now (nums .entry))) (at .0) (cells (now (buf .exit)) (now (nums .exit))) (r .0) (followed (map (laterLine width) (trimmed (part (a .0) (e .0) (cells (now (src .entry)) (now (from .entry))))))) ⌝ }
+    end: usize,
+    at: WorkAt,
+) -> WorkAt
+    requires { ⌜ (e .0 ≤ at .0) × ((e .0 ≤ end) × ((end ≤ length (now work)) × (end ≤ length (now numbers)))) ⌝ }
+    ensures { λ r. ⌜ AppendsIn (now (work .entry)) (now (numbers .entry)) end (at .0) (now (work .exit)) (now (numbers .exit)) (r .0) (followed (map (laterLine width) (trimmed (part (a .0) (e .0) (cells (now (work .entry)) (now (numbers .entry))))))) ⌝ }
 {
-    let end = e.0;
+    let last = e.0;
     let mut i = a.0;
     let mut to = at;
-    while i < end {
-        let j = line_end(src, from, PostAt(i), PostAt(end));
+    while i < last {
+        let j = line_end(&work[..], &numbers[..], WorkAt(i), e);
         let k = j.0;
-        to = put_later(src, from, PostAt(i), j, width, buf, nums, to);
+        to = put_later(work, numbers, WorkAt(i), j, width, end, to);
         i = k + 1;
     }
     to
@@ -148,43 +166,40 @@ fn put_later_lines(
 
 // Appends lines, each end trimmed, all after the first indented.
 pub fn put_lines(
-    src: &[u8],
-    from: &[u32],
-    a: PostAt,
-    e: PostAt,
+    work: &mut [u8],
+    numbers: &mut [u32],
+    a: WorkAt,
+    e: WorkAt,
     width: usize,
-    buf: &mut [u8],
-    nums: &mut [u32],
-    at: TextAt,
-) -> TextAt
-    requires { ⌜ (a .0 < e .0) × ((e .0 ≤ length (now src)) × (e .0 ≤ length (now from))) ⌝ }
-    ensures { λ r. ⌜ Appends (cells (now (buf .entry)) (now (nums .entry))) (at .0) (cells (now (buf .exit)) (now (nums .exit))) (r .0) (joined (indented width (trimmed (part (a .0) (e .0) (cells (now (src .entry)) (now (from .entry))))))) ⌝ }
+    end: usize,
+    at: WorkAt,
+) -> WorkAt
+    requires { ⌜ ((a .0 < e .0) × (e .0 ≤ at .0)) × ((e .0 ≤ end) × ((end ≤ length (now work)) × (end ≤ length (now numbers)))) ⌝ }
+    ensures { λ r. ⌜ AppendsIn (now (work .entry)) (now (numbers .entry)) end (at .0) (now (work .exit)) (now (numbers .exit)) (r .0) (joined (indented width (trimmed (part (a .0) (e .0) (cells (now (work .entry)) (now (numbers .entry))))))) ⌝ }
 {
     let i = a.0;
-    let j = line_end(src, from, a, e);
+    let j = line_end(&work[..], &numbers[..], a, e);
     let k = j.0;
-    let end = trim_end(src, from, PostAt(i), j);
-    let x = copy(src, from, PostAt(i), end, buf, nums, at);
-    put_later_lines(src, from, PostAt(k + 1), e, width, buf, nums, x)
+    let last = trim_end(&work[..], &numbers[..], WorkAt(i), j);
+    let x = copy_within(work, numbers, WorkAt(i), last, end, at);
+    put_later_lines(work, numbers, WorkAt(k + 1), e, width, end, x)
 }
 
 // Appends an item that is not empty, of the cells from a up to e, behind its marker.
 pub fn put_item(
-    src: &[u8],
-    from: &[u32],
-    a: PostAt,
-    e: PostAt,
-    ordered: bool,
-    second: bool,
+    work: &mut [u8],
+    numbers: &mut [u32],
+    a: WorkAt,
+    e: WorkAt,
+    kind: Kind,
     index: u32,
-    buf: &mut [u8],
-    nums: &mut [u32],
-    at: TextAt,
-) -> TextAt
-    requires { ⌜ (a .0 < e .0) × ((e .0 ≤ length (now src)) × (e .0 ≤ length (now from))) ⌝ }
-    ensures { λ r. ⌜ Appends (cells (now (buf .entry)) (now (nums .entry))) (at .0) (cells (now (buf .exit)) (now (nums .exit))) (r .0) (marked (marker ordered second index) (trimmed (part (a .0) (e .0) (cells (now (src .entry)) (now (from .entry)))))) ⌝ }
+    end: usize,
+    at: WorkAt,
+) -> WorkAt
+    requires { ⌜ ((a .0 < e .0) × (e .0 ≤ at .0)) × ((e .0 ≤ end) × ((end ≤ length (now work)) × (end ≤ length (now numbers)))) ⌝ }
+    ensures { λ r. ⌜ AppendsIn (now (work .entry)) (now (numbers .entry)) end (at .0) (now (work .exit)) (now (numbers .exit)) (r .0) (marked (marker (kind .ordered) (kind .second) index) (trimmed (part (a .0) (e .0) (cells (now (work .entry)) (now (numbers .entry)))))) ⌝ }
 {
-    let width = marker_width(ordered, second, index);
-    let x = put_marker(ordered, second, index, buf, nums, at);
-    put_lines(src, from, a, e, width, buf, nums, x)
+    let width = marker_width(kind, index);
+    let x = put_marker(kind, index, work, numbers, end, at);
+    put_lines(work, numbers, a, e, width, end, x)
 }

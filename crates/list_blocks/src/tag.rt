@@ -1,5 +1,6 @@
 // The list tags.
 use text::PostAt;
+use text::cell::is_blank;
 use text::scan::begins_at;
 use text::scan::byte_at;
 use text::scan::small_of;
@@ -28,10 +29,11 @@ fn skip_blank(src: &[u8], from: &[u32], i: usize) -> usize
         if src[r] == b']' {
             return r;
         }
-        if from[r] % 2 != 1 {
+        if is_blank(from[r]) {
+            r += 1;
+        } else {
             return r;
         }
-        r += 1;
     }
     r
 }

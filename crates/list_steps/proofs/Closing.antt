@@ -1,20 +1,17 @@
 -- Laws of closing a list by its table. Assumes nothing.
 use mathlib.Core.Path.{_≡_, refl, sym, ap, _∙_}
-use mathlib.Core.Bool.{Bool, false, cond, not, _||_}
+use mathlib.Core.Bool.{Bool, false, not, _||_}
 use mathlib.Core.List.{List, [], _∷_, _++_}
-use Prim.Native.Nat.{ℕ, _+_, _-_, _%_, _≤_, _<_}
+use Prim.Native.Nat.{ℕ, _+_, _-_, _≤_, _<_}
 use native.Mathlib.Omega.{arith}
-use lib.ListN.{length, getD, replicate}
-use lib.Dec.{eqb, leb}
+use lib.ListN.{length, getD}
 use borrow.Author.Tests.{lt-ltb, le-ltb}
 use Rattle.text.specs.Ascii.{isEmpty}
-use Rattle.text.specs.Cells.{Cell, cell, cells, part, feed}
+use Rattle.text.specs.Cells.{Cell, cell, cells, part}
 use Rattle.text.specs.Lines.{isFeed}
-use Rattle.text.specs.Writes.{Appends}
-use Rattle.text.proofs.Writing.{appends-then, part-end, part-snoc}
-use Rattle.list_blocks.specs.Blocks.{block, between, partsIn}
+use Rattle.text.proofs.Writing.{part-end, part-snoc}
 use Rattle.list_blocks.specs.Lists.{endsInFeed}
-use Rattle.list_steps.specs.Standing.{feedAt, feedsBefore, closingAt}
+use Rattle.list_steps.specs.Standing.{feedAt}
 
 -- ---- the line feed before an inner block
 
@@ -46,10 +43,3 @@ module _ (bs ns : List ℕ) (first : ℕ) where
     feed-some last q lt hb hn t e =
         rw (lt-ltb (getD ns first 0 + 3) first h, q, part-snoc bs ns (getD ns (first - 1) 0) last (omega arith) (omega arith) (omega arith))
         (ap not (e ∙ sym (or-snoc (part (getD ns (first - 1) 0) last (cells bs ns)) (cell (getD bs last 0) (getD ns last 0)))))
-
-pub closing-by : {v v₁ v₂ v₃ : List Cell} {to₁ to₂ to₃ before behind : ℕ} {o s : Bool} (bs ns : List ℕ) (end at top first : ℕ)
-    → before ≡ feedsBefore bs ns first end → behind ≡ cond (eqb first end) 2 1 → o ≡ leb 2 (getD ns (first + 1) 0) → s ≡ eqb (getD ns (first + 1) 0 % 2) 1
-    → Appends v 0 v₁ to₁ (replicate before feed) → Appends v₁ to₁ v₂ to₂ (block o s (partsIn (cells bs ns) (between (first + 2) top ns) at))
-    → Appends v₂ to₂ v₃ to₃ (replicate behind feed) → Appends v 0 v₃ to₃ (closingAt bs ns end at top first)
-unfolding closingAt
-closing-by bs ns end at top first qb qh qo qs p q r = rw (← qb, ← qh, ← qo, ← qs) (appends-then p (appends-then q r))

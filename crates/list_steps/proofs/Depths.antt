@@ -10,6 +10,7 @@ use lib.ListN.{length, take, drop, drop-of-length-le, length-drop}
 use lib.Seq.{take-all, take-take, drop-drop, length-take-le}
 use borrow.Author.Tests.{lt-leb, le-leb}
 use Rattle.text.specs.Ascii.{is, toFirst}
+use Rattle.text.specs.Bounds.{deepMost}
 use Rattle.text.specs.Cells.{Cell, cells, bytes, part}
 use Rattle.list_blocks.specs.declared.tag.Tag.{Tag}
 use Rattle.list_blocks.specs.declared.tag.Tag.the-variants.{Opener, Item, Closer, Plain}
@@ -30,24 +31,24 @@ depth-after Closer c x zero = refl
 depth-after Closer c x (suc d) = omega arith
 depth-after Plain c x d = refl
 
-limit-over : (t : Tag) (c : Cell) (x : List Cell) (d : ℕ) → d ≤ 64 → 64 < depthBy t d → overLimit d (tokenOf t c x) ≡ true
-limit-over (Opener n o) c x d h far = le-leb 64 d (omega arith)
+limit-over : (t : Tag) (c : Cell) (x : List Cell) (d : ℕ) → d ≤ deepMost → deepMost < depthBy t d → overLimit d (tokenOf t c x) ≡ true
+limit-over (Opener n o) c x d h far = le-leb deepMost d (omega arith)
 limit-over Item c x d h far = absurd (omega arith)
 limit-over Closer c x d h far = absurd (omega arith)
 limit-over Plain c x d h far = absurd (omega arith)
 
-limit-under : (t : Tag) (c : Cell) (x : List Cell) (d : ℕ) → depthBy t d ≤ 64 → overLimit d (tokenOf t c x) ≡ false
-limit-under (Opener n o) c x d h = lt-leb 64 d (omega arith)
+limit-under : (t : Tag) (c : Cell) (x : List Cell) (d : ℕ) → depthBy t d ≤ deepMost → overLimit d (tokenOf t c x) ≡ false
+limit-under (Opener n o) c x d h = lt-leb deepMost d (omega arith)
 limit-under Item c x d h = refl
 limit-under Closer c x d h = refl
 limit-under Plain c x d h = refl
 
-deeper-over : (y : List Cell) (d : ℕ) → 0 < length y → d ≤ 64 → 64 < depthBy (tagAt y) d → deeper d (tokens 0 y) ≡ true
+deeper-over : (y : List Cell) (d : ℕ) → 0 < length y → d ≤ deepMost → deepMost < depthBy (tagAt y) d → deeper d (tokens 0 y) ≡ true
 unfolding deeper tokens
 deeper-over [] d h le far = absurd (omega arith)
 deeper-over (c ∷ x) d h le far = rw (limit-over (tagAt (c ∷ x)) c x d le far)
 
-deeper-under : (y : List Cell) (d : ℕ) → 0 < length y → depthBy (tagAt y) d ≤ 64 → deeper d (tokens 0 y) ≡ deeper (depthBy (tagAt y) d) (tokens 0 (drop (suc (restOf (tagAt y))) y))
+deeper-under : (y : List Cell) (d : ℕ) → 0 < length y → depthBy (tagAt y) d ≤ deepMost → deeper d (tokens 0 y) ≡ deeper (depthBy (tagAt y) d) (tokens 0 (drop (suc (restOf (tagAt y))) y))
 unfolding deeper tokens
 deeper-under [] d h le = absurd (omega arith)
 deeper-under (c ∷ x) d h le =
@@ -66,10 +67,10 @@ deeper-more Plain k (c ∷ x) d h g = tokens-text (deeper d) k x g (λ b y. refl
 
 -- at a tag that takes n cells behind its first
 module _ (y : List Cell) (d : ℕ) {tag : Tag} (some : 0 < length y) (tag-is : tag ≡ tagAt y) where
-  pub deep-over : d ≤ 64 → 64 < depthBy tag d → deeper d (tokens 0 y) ≡ true
+  pub deep-over : d ≤ deepMost → deepMost < depthBy tag d → deeper d (tokens 0 y) ≡ true
   deep-over le far = deeper-over y d some le (rw tag-is at far)
 
-  pub deep-goes : {z : List Cell} {n : ℕ} → n ≡ restWith tag (toFirst (is "[") (bytes (drop 1 y))) → drop (suc n) y ≡ z → depthBy tag d ≤ 64 → deeper d (tokens 0 y) ≡ deeper (depthBy tag d) (tokens 0 z)
+  pub deep-goes : {z : List Cell} {n : ℕ} → n ≡ restWith tag (toFirst (is "[") (bytes (drop 1 y))) → drop (suc n) y ≡ z → depthBy tag d ≤ deepMost → deeper d (tokens 0 y) ≡ deeper (depthBy tag d) (tokens 0 z)
   deep-goes size next le =
       deeper-under y d some (rw tag-is at le) ∙ deeper-more (tagAt y) (toFirst (is "[") (bytes (drop 1 y))) y (depthBy (tagAt y) d) some (omega arith)
       ∙ rw (← tag-is, ← size, next)
@@ -107,10 +108,10 @@ module _ (bs ns : List ℕ) (h : length bs ≤ length ns) (i d : ℕ) (lt : i < 
       let g : 1 + restWith tag more ≤ length (drop i (cells bs ns)) = rest-size tag (drop i (cells bs ns)) (omega arith) (rw tag-is s) in
       omega (arith, l, z, g)
 
-  pub depth-over : d ≤ 64 → 64 < depthBy tag d → deeper d (tokens 0 (drop i (cells bs ns))) ≡ true
+  pub depth-over : d ≤ deepMost → deepMost < depthBy tag d → deeper d (tokens 0 (drop i (cells bs ns))) ≡ true
   depth-over = let l = left in deep-over (drop i (cells bs ns)) d (omega arith) tag-is
 
-  pub depth-goes : depthBy tag d ≤ 64 → deeper d (tokens 0 (drop i (cells bs ns))) ≡ deeper (depthBy tag d) (tokens 0 (drop (i + n + 1) (cells bs ns)))
+  pub depth-goes : depthBy tag d ≤ deepMost → deeper d (tokens 0 (drop i (cells bs ns))) ≡ deeper (depthBy tag d) (tokens 0 (drop (i + n + 1) (cells bs ns)))
   depth-goes =
       let l = left in
       let z : i + suc n ≡ i + n + 1 = omega arith in

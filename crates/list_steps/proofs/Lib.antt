@@ -8,3 +8,5 @@ pub mod Closes
 pub mod Steppings
 pub mod Runs
 pub mod Depths
+pub mod Within
+pub mod Outside

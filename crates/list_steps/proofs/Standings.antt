@@ -9,6 +9,7 @@ use lib.Seq.{drop-at, take-take, getD-append-add}
 use lib.Dec.{eqb, leb}
 use borrow.Author.Tests.{lt-ltb, le-ltb, eq-eqb, ne-eqb}
 use Rattle.text.specs.Ascii.{isEmpty}
+use Rattle.text.specs.Bounds.{numberMost}
 use Rattle.text.specs.Cells.{Cell, cells, part, feed}
 use Rattle.text.proofs.Writing.{holds-fits, cells-le}
 use Rattle.text.proofs.Areas.{area-length}
@@ -19,8 +20,8 @@ use Rattle.list_steps.proofs.Tables.{part-left, starts-length, starts-l
 
 -- ---- the contents
 
-module _ (before : List Cell) (bs ns : List ℕ) (end at top first : ℕ) (second : Bool) (s : State)
-    (h : Stands before bs ns end at top first second s) (fit : at ≤ end) (hb : end ≤ length bs) (hn : end ≤ length ns) where
+module _ (before : List Cell) (bs ns : List ℕ) (end table at top first : ℕ) (second : Bool) (s : State)
+    (h : Stands before bs ns end table at top first second s) (fit : at ≤ end) (hb : end ≤ length bs) (hn : end ≤ length ns) where
   v : List Cell
   v = cells bs ns
 
@@ -35,11 +36,11 @@ module _ (before : List Cell) (bs ns : List ℕ) (end at top first : ℕ) (secon
 
 -- ---- the innermost list
 
-module _ (before : List Cell) (bs ns : List ℕ) (end at top first : ℕ) (second : Bool) (now : List Cell) (sec : Bool) (l : Open) (ls : List Open)
-    (h : Stands before bs ns end at top first second (record { now = now; second = sec; lists = l ∷ ls }))
+module _ (before : List Cell) (bs ns : List ℕ) (end table at top first : ℕ) (second : Bool) (now : List Cell) (sec : Bool) (l : Open) (ls : List Open)
+    (h : Stands before bs ns end table at top first second (record { now = now; second = sec; lists = l ∷ ls }))
     (fit : at ≤ end) (hb : end ≤ length bs) (hn : end ≤ length ns) where
   abbrev f : Frames
-  f = frames (length before) end ls
+  f = frames (length before) table ls
 
   -- where the lead begins
   abbrev p : ℕ
@@ -48,11 +49,11 @@ module _ (before : List Cell) (bs ns : List ℕ) (end at top first : ℕ) (secon
   row : List ℕ
   row = f .first ∷ kindOf (l .ordered) (l .second) ∷ startsFrom p (l .parts)
 
-  tab : between end top ns ≡ f .table ++ row
+  tab : between table top ns ≡ f .table ++ row
   unfolding frames row
-  tab = h .table
+  tab = h .rows
 
-  here : first ≡ end + length (f .table)
+  here : first ≡ table + length (f .table)
   unfolding frames
   here = h .frame
 
@@ -60,11 +61,11 @@ module _ (before : List Cell) (bs ns : List ℕ) (end at top first : ℕ) (secon
   unfolding row
   row-size = let n = starts-length p (l .parts) in omega arith
 
-  size : top ≡ end + (length (f .table) + length row)
-  size = table-size ns end top (f .table) row tab (h .reaches)
+  size : top ≡ table + (length (f .table) + length row)
+  size = table-size ns table top (f .table) row tab (h .reaches)
 
   read : (i : ℕ) → i < length row → getD ns (first + i) 0 ≡ getD row i 0
-  read i lt = ap (λ (k : ℕ). getD ns (k + i) 0) here ∙ table-at ns end top (f .table) row tab (h .reaches) i lt
+  read i lt = ap (λ (k : ℕ). getD ns (k + i) 0) here ∙ table-at ns table top (f .table) row tab (h .reaches) i lt
 
   pub frame-parent : getD ns first 0 ≡ f .first
   unfolding row
@@ -91,12 +92,12 @@ module _ (before : List Cell) (bs ns : List ℕ) (end at top first : ℕ) (secon
   pub frame-starts : between (first + 2) top ns ≡ startsFrom p (l .parts)
   unfolding row
   frame-starts =
-      let t : between end top ns ≡ (f .table ++ f .first ∷ kindOf (l .ordered) (l .second) ∷ []) ++ startsFrom p (l .parts) =
+      let t : between table top ns ≡ (f .table ++ f .first ∷ kindOf (l .ordered) (l .second) ∷ []) ++ startsFrom p (l .parts) =
       tab ∙ sym (append-assoc (f .table) (f .first ∷ kindOf (l .ordered) (l .second) ∷ []) (startsFrom p (l .parts))) in
       let n = length-append (f .table) (f .first ∷ kindOf (l .ordered) (l .second) ∷ []) in
       let q = here in
-      let e : first + 2 ≡ end + length (f .table ++ f .first ∷ kindOf (l .ordered) (l .second) ∷ []) = omega arith in
-      ap (λ (k : ℕ). between k top ns) e ∙ table-behind ns end top (f .table ++ f .first ∷ kindOf (l .ordered) (l .second) ∷ []) (startsFrom p (l .parts)) t (h .reaches)
+      let e : first + 2 ≡ table + length (f .table ++ f .first ∷ kindOf (l .ordered) (l .second) ∷ []) = omega arith in
+      ap (λ (k : ℕ). between k top ns) e ∙ table-behind ns table top (f .table ++ f .first ∷ kindOf (l .ordered) (l .second) ∷ []) (startsFrom p (l .parts)) t (h .reaches)
 
   -- the contents up to the list, and its own
   abbrev up : List Cell
@@ -112,10 +113,10 @@ module _ (before : List Cell) (bs ns : List ℕ) (end at top first : ℕ) (secon
       ∙ sym (append-assoc before (outers ls ++ l .outer) (strung (l .parts) ++ now))
 
   whole : take at (cells bs ns) ≡ up ++ (strung (l .parts) ++ now)
-  whole = stands-text before bs ns end at top first second _ h fit hb hn ∙ all-is
+  whole = stands-text before bs ns end table at top first second _ h fit hb hn ∙ all-is
 
   pub at-is : at ≡ p + length (strung (l .parts) ++ now)
-  at-is = stands-end before bs ns end at top first second _ h fit hb hn ∙ ap length all-is ∙ length-append up (strung (l .parts) ++ now) ∙ ap (λ (k : ℕ). k + length (strung (l .parts) ++ now)) up-length
+  at-is = stands-end before bs ns end table at top first second _ h fit hb hn ∙ ap length all-is ∙ length-append up (strung (l .parts) ++ now) ∙ ap (λ (k : ℕ). k + length (strung (l .parts) ++ now)) up-length
 
   own : part p at (cells bs ns) ≡ strung (l .parts) ++ now
   unfolding part
@@ -130,8 +131,8 @@ module _ (before : List Cell) (bs ns : List ℕ) (end at top first : ℕ) (secon
   pub frame-rises : Rises (between (first + 2) top ns) at
   frame-rises = rw frame-starts (starts-rise p at (l .parts) (let a = at-is in let n = length-append (strung (l .parts)) now in omega arith))
 
-  pub framed-here : top ≤ end + 67108864 → length ns ≤ 4294967295 → Framed bs ns end at top first
-  framed-here few short =
+  pub framed-here : length ns ≤ numberMost → Framed bs ns table at top first
+  framed-here short =
       let q = here in
       let z = size in
       let n = row-size in
@@ -142,7 +143,7 @@ module _ (before : List Cell) (bs ns : List ℕ) (end at top first : ℕ) (secon
         rises = frame-rises;
         fits = (omega arith, (omega arith, r .1));
         start = rw frame-start (omega arith);
-        short = (omega arith, short);
+        short = short;
       }
 
   -- ---- what stands around the block
@@ -177,73 +178,73 @@ module _ (before : List Cell) (bs ns : List ℕ) (end at top first : ℕ) (secon
   last-read i e =
       let q = here in
       let n = row-size in
-      let k : first - 1 ≡ end + i = omega arith in
-      ap (λ (j : ℕ). getD ns j 0) k ∙ table-read ns end top (f .table) row tab (h .reaches) i (omega arith) ∙ List·getD-append (f .table) row 0 i (omega arith)
+      let k : first - 1 ≡ table + i = omega arith in
+      ap (λ (j : ℕ). getD ns j 0) k ∙ table-read ns table top (f .table) row tab (h .reaches) i (omega arith) ∙ List·getD-append (f .table) row 0 i (omega arith)
 
-  pub frame-here : first ≡ end + length (f .table)
+  pub frame-here : first ≡ table + length (f .table)
   frame-here = here
 
   -- ---- what is written
 
-  pub closing-by-feeds : (n k : ℕ) → feedsBefore bs ns first end ≡ n → cond (eqb first end) 2 1 ≡ k
-      → closingAt bs ns end at top first ≡ replicate n feed ++ (block (l .ordered) (l .second) (l .parts ++ now ∷ []) ++ replicate k feed)
+  pub closing-by-feeds : (n k : ℕ) → feedsBefore bs ns first table ≡ n → cond (eqb first table) 2 1 ≡ k
+      → closingAt bs ns table at top first ≡ replicate n feed ++ (block (l .ordered) (l .second) (l .parts ++ now ∷ []) ++ replicate k feed)
   unfolding closingAt b
   closing-by-feeds n k e g = rw (block-is, e, g)
 
 -- a list at the root
-closing-root : (before : List Cell) (bs ns : List ℕ) (end at top first : ℕ) (second : Bool) (now : List Cell) (sec : Bool) (l : Open)
-    → Stands before bs ns end at top first second (record { now = now; second = sec; lists = l ∷ [] }) → at ≤ end → end ≤ length bs → end ≤ length ns
-    → closingAt bs ns end at top first ≡ closing l [] now
+closing-root : (before : List Cell) (bs ns : List ℕ) (end table at top first : ℕ) (second : Bool) (now : List Cell) (sec : Bool) (l : Open)
+    → Stands before bs ns end table at top first second (record { now = now; second = sec; lists = l ∷ [] }) → at ≤ end → end ≤ length bs → end ≤ length ns
+    → closingAt bs ns table at top first ≡ closing l [] now
 unfolding closing feedsBefore frames
-closing-root before bs ns end at top first second now sec l h fit hb hn =
-    closing-by-feeds before bs ns end at top first second now sec l [] h fit hb hn 2 2 (rw is-end) (rw is-end)
+closing-root before bs ns end table at top first second now sec l h fit hb hn =
+    closing-by-feeds before bs ns end table at top first second now sec l [] h fit hb hn 2 2 (rw is-end) (rw is-end)
   where
-    is-end : eqb first end ≡ true
-    is-end = let q : first ≡ end + 0 = frame-here before bs ns end at top first second now sec l [] h fit hb hn in eq-eqb first end (omega arith)
+    is-end : eqb first table ≡ true
+    is-end = let q : first ≡ table + 0 = frame-here before bs ns end table at top first second now sec l [] h fit hb hn in eq-eqb first table (omega arith)
 
 feeds-inner : (t : Bool) → replicate (cond (true && not t) 1 0) feed ≡ cond t [] (feed ∷ [])
 feeds-inner true = refl
 feeds-inner false = refl
 
 -- a list in a lead or an item of another
-module _ (before : List Cell) (bs ns : List ℕ) (end at top first : ℕ) (second : Bool) (now : List Cell) (sec : Bool) (l q : Open) (qs : List Open)
-    (h : Stands before bs ns end at top first second (record { now = now; second = sec; lists = l ∷ q ∷ qs }))
+module _ (before : List Cell) (bs ns : List ℕ) (end table at top first : ℕ) (second : Bool) (now : List Cell) (sec : Bool) (l q : Open) (qs : List Open)
+    (h : Stands before bs ns end table at top first second (record { now = now; second = sec; lists = l ∷ q ∷ qs }))
     (fit : at ≤ end) (hb : end ≤ length bs) (hn : end ≤ length ns) where
   g : Frames
-  g = frames (length before) end qs
+  g = frames (length before) table qs
 
   p' : ℕ
   p' = length before + length (outers qs ++ q .outer)
 
-  table-size' : length (frames (length before) end (q ∷ qs) .table) ≡ length (g .table) + (3 + length (q .parts))
+  table-size' : length (frames (length before) table (q ∷ qs) .table) ≡ length (g .table) + (3 + length (q .parts))
   unfolding frames g p'
   table-size' =
       let n = starts-length p' (q .parts) in
       let m = length-append (g .table) (g .first ∷ kindOf (q .ordered) (q .second) ∷ startsFrom p' (q .parts)) in
       omega arith
 
-  first-is : first ≡ end + (length (g .table) + (3 + length (q .parts)))
-  first-is = frame-here before bs ns end at top first second now sec l (q ∷ qs) h fit hb hn ∙ ap (λ (k : ℕ). end + k) table-size'
+  first-is : first ≡ table + (length (g .table) + (3 + length (q .parts)))
+  first-is = frame-here before bs ns end table at top first second now sec l (q ∷ qs) h fit hb hn ∙ ap (λ (k : ℕ). table + k) table-size'
 
-  parent-is : getD ns first 0 ≡ end + length (g .table)
+  parent-is : getD ns first 0 ≡ table + length (g .table)
   unfolding frames g
-  parent-is = frame-parent before bs ns end at top first second now sec l (q ∷ qs) h fit hb hn
+  parent-is = frame-parent before bs ns end table at top first second now sec l (q ∷ qs) h fit hb hn
 
   last-start : getD ns (first - 1) 0 ≡ length before + length (outers (q ∷ qs))
   unfolding frames g p' outers
   last-start =
       let n = length-append (outers qs ++ q .outer) (strung (q .parts)) in
-      last-read before bs ns end at top first second now sec l (q ∷ qs) h fit hb hn (length (g .table) + suc (suc (length (q .parts)))) (table-size' ∙ omega arith)
+      last-read before bs ns end table at top first second now sec l (q ∷ qs) h fit hb hn (length (g .table) + suc (suc (length (q .parts)))) (table-size' ∙ omega arith)
       ∙ getD-append-add (g .table) (g .first ∷ kindOf (q .ordered) (q .second) ∷ startsFrom p' (q .parts)) (suc (suc (length (q .parts)))) 0
       ∙ starts-last p' (q .parts) ∙ omega arith
 
   outer-at : outerAt bs ns first ≡ l .outer
   outer-at =
-      rw (last-start, frame-start before bs ns end at top first second now sec l (q ∷ qs) h fit hb hn)
-      (outer-is before bs ns end at top first second now sec l (q ∷ qs) h fit hb hn)
+      rw (last-start, frame-start before bs ns end table at top first second now sec l (q ∷ qs) h fit hb hn)
+      (outer-is before bs ns end table at top first second now sec l (q ∷ qs) h fit hb hn)
 
-  not-end : eqb first end ≡ false
-  not-end = let e = first-is in ne-eqb first end (λ z. omega arith)
+  not-end : eqb first table ≡ false
+  not-end = let e = first-is in ne-eqb first table (λ z. omega arith)
 
   feeds-are : (xs : List (List Cell)) → q .parts ≡ xs → replicate (cond (feedAt bs ns first) 1 0) feed ≡ feedBefore xs (l .outer)
   unfolding feedAt
@@ -258,14 +259,14 @@ module _ (before : List Cell) (bs ns : List ℕ) (end at top first : ℕ) (secon
       let y = parent-is in
       rw (lt-ltb (getD ns first 0 + 3) first (omega arith), outer-at) (feeds-inner (isEmpty (l .outer) || endsInFeed (l .outer)))
 
-  closing-inner : closingAt bs ns end at top first ≡ closing l (q ∷ qs) now
+  closing-inner : closingAt bs ns table at top first ≡ closing l (q ∷ qs) now
   unfolding closing feedsBefore
   closing-inner =
-      closing-by-feeds before bs ns end at top first second now sec l (q ∷ qs) h fit hb hn (cond (feedAt bs ns first) 1 0) 1 (rw not-end) (rw not-end)
+      closing-by-feeds before bs ns end table at top first second now sec l (q ∷ qs) h fit hb hn (cond (feedAt bs ns first) 1 0) 1 (rw not-end) (rw not-end)
       ∙ ap (λ (y : List Cell). y ++ (block (l .ordered) (l .second) (l .parts ++ now ∷ []) ++ feed ∷ [])) (feeds-are (q .parts) refl)
 
-pub closing-is : (before : List Cell) (bs ns : List ℕ) (end at top first : ℕ) (second : Bool) (now : List Cell) (sec : Bool) (l : Open) (ls : List Open)
-    → Stands before bs ns end at top first second (record { now = now; second = sec; lists = l ∷ ls }) → at ≤ end → end ≤ length bs → end ≤ length ns
-    → closingAt bs ns end at top first ≡ closing l ls now
-closing-is before bs ns end at top first second now sec l [] h fit hb hn = closing-root before bs ns end at top first second now sec l h fit hb hn
-closing-is before bs ns end at top first second now sec l (q ∷ qs) h fit hb hn = closing-inner before bs ns end at top first second now sec l q qs h fit hb hn
+pub closing-is : (before : List Cell) (bs ns : List ℕ) (end table at top first : ℕ) (second : Bool) (now : List Cell) (sec : Bool) (l : Open) (ls : List Open)
+    → Stands before bs ns end table at top first second (record { now = now; second = sec; lists = l ∷ ls }) → at ≤ end → end ≤ length bs → end ≤ length ns
+    → closingAt bs ns table at top first ≡ closing l ls now
+closing-is before bs ns end table at top first second now sec l [] h fit hb hn = closing-root before bs ns end table at top first second now sec l h fit hb hn
+closing-is before bs ns end table at top first second now sec l (q ∷ qs) h fit hb hn = closing-inner before bs ns end table at top first second now sec l q qs h fit hb hn

@@ -1,15 +1,13 @@
-// The limit of open lists.
+// How many lists are open.
 use list_blocks::tag::Tag;
 ghost use mathlib.Core.Path.{_≡_};
 ghost use Prim.Native.Nat.{_-_, _≤_};
+ghost use Rattle.text.specs.Bounds.{deepMost};
 ghost use Rattle.list_steps.specs.Standing.{depthBy};
-
-// How many lists may be open.
-pub const LISTS_MOST: usize = 64;
 
 // How many lists are open behind a tag.
 pub fn depth_after(tag: Tag, depth: usize) -> usize
-    requires { ⌜ depth ≤ 64 ⌝ }
+    requires { ⌜ depth ≤ deepMost ⌝ }
     ensures { λ r. ⌜ r ≡ depthBy tag depth ⌝ }
 {
     match tag {

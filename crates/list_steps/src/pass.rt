@@ -1,53 +1,64 @@
 // The list pass on cells that are handed on.
+use crate::close::Areas;
 use crate::close::Machine;
 use crate::close::close_list;
-use crate::depth::LISTS_MOST;
 use crate::depth::depth_after;
 use crate::step::step;
 use list_blocks::tag::Tag;
 use list_blocks::tag::tag_at;
 use text::PostAt;
+use text::WorkAt;
+use text::bounds::DEEP_MOST;
+use text::greater;
 use text::scan::next_byte;
 ghost use mathlib.Core.Path.{_≡_};
-ghost use mathlib.Core.List.{List, []};
-ghost use Prim.Native.Nat.{_+_, _-_, _≤_, _<_};
-ghost use lib.ListN.{length, take, drop};
-ghost use lib.Dec.{ltb};
+ghost use mathlib.Core.Bool.{cond};
+ghost use Prim.Native.Nat.{_≤_, _<_};
+ghost use lib.ListN.{length, drop};
 ghost use Rattle.text.specs.Ascii.{is, toFirst};
-ghost use Rattle.text.specs.Cells.{Cell, cells, part};
-ghost use Rattle.list_blocks.specs.Tags.{tokens, deeper, tooDeep};
-ghost use Rattle.list_steps.specs.Standing.{Ready, Running, Passed, restWith};
+ghost use Rattle.text.specs.Bounds.{deepMost, numberMost};
+ghost use Rattle.text.specs.Cells.{cells};
+ghost use Rattle.list_blocks.specs.Tags.{tokens, deeper};
+ghost use Rattle.list_steps.specs.declared.pass.Passed.the-variants.{Full, TooDeep};
+ghost use Rattle.list_steps.specs.Standing.{restWith, roomOf, lent, Spaced, PassRoom, PassedIn, ReadyIn, Finishes};
 
-// The place past every slice's end, where a text's need is more.
-pub const FULL: usize = 0xffff_ffff_ffff_fffe;
+// Where the text ends, and its need; or why there is none: its need is more than the room of the contents, or a list opener is met while as many
+// lists are open as may be.
+pub enum Passed {
+    Done(WorkAt, usize),
+    Full,
+    TooDeep,
+}
 
-// The place past it, where a list opener is met while as many lists are open as may be.
-const DEEP: usize = 0xffff_ffff_ffff_ffff;
-
-// Closes all open lists, innermost first. The place behind the text, past the end where it did not fit.
+// Closes all open lists, innermost first, where at most `seen` cells stood in the contents before.
 fn finish_lists(
     from: Machine,
-    base: usize,
-    end: usize,
+    seen: usize,
+    areas: Areas,
     work: &mut [u8],
     numbers: &mut [u32],
-    out: &mut [u8],
-    origins: &mut [u32],
-) -> usize
-    requires { ⌜ Ready (now work) (now numbers) base end (from .at) (from .top) (from .first) (from .second) × ((base + length (now out) ≡ end) × (length (now out) ≤ length (now origins))) ⌝ }
-    ensures { λ r. ⌜ ((x before : List Cell) → length before ≡ base → Running (length (now (out .entry))) x before (now (work .entry)) (now (numbers .entry)) end (from .at) (from .top) (from .first) (from .second) [] → Passed (length (now (out .entry))) x base end (now (work .exit)) (now (numbers .exit)) r) × (r ≤ 18446744073709551614) ⌝ }
+) -> Passed
+    requires { ⌜ ReadyIn (now work) (now numbers) areas from × (Spaced areas (length (now work)) (length (now numbers)) × (seen ≤ roomOf areas)) ⌝ }
+    ensures { λ r. ⌜ Finishes areas seen (now (work .entry)) (now (numbers .entry)) from (now (work .exit)) (now (numbers .exit)) r ⌝ }
 {
+    let base = areas.base.0;
+    let end = areas.end.0;
+    let table = areas.table.0;
     let mut st = from;
-    let mut top = from.top;
-    while end < top {
-        st = close_list(st, base, end, work, numbers, out, origins);
-        let at = st.at;
+    let mut most = seen;
+    let mut top = from.top.0;
+    while table < top {
+        most = greater(most, st.at.0 - base);
+        st = close_list(st, areas, work, numbers);
+        let at = st.at.0;
         if end < at {
-            return FULL;
+            return Passed::Full;
         }
-        top = st.top;
+        top = st.top.0;
     }
-    st.at
+    let to = st.at;
+    let need = greater(most, to.0 - base);
+    Passed::Done(to, need)
 }
 
 // How many cells of a text stand behind its first and before the next `[`.
@@ -60,7 +71,7 @@ fn text_behind(src: &[u8]) -> usize
 }
 
 // How many cells are taken with the first of a text: the others of the tag that it begins with, or the text before the next one.
-pub fn rest_of(tag: Tag, src: &[u8]) -> usize
+fn rest_of(tag: Tag, src: &[u8]) -> usize
     requires { ⌜ 0 < length (now src) ⌝ }
     ensures { λ r. ⌜ r ≡ restWith tag (toFirst (is "[") (drop 1 (now (src .entry)))) ⌝ }
 {
@@ -74,7 +85,7 @@ pub fn rest_of(tag: Tag, src: &[u8]) -> usize
 
 // Whether an opener is met while as many lists are open as may be, where `open` are open before the text.
 fn too_deep(src: &[u8], from: &[u32], open: usize) -> bool
-    requires { ⌜ (length (now src) ≤ length (now from)) × («open» ≤ 64) ⌝ }
+    requires { ⌜ (length (now src) ≤ length (now from)) × («open» ≤ deepMost) ⌝ }
     ensures { λ r. ⌜ r ≡ deeper «open» (tokens 0 (cells (now (src .entry)) (now (from .entry)))) ⌝ }
 {
     let n = src.len();
@@ -84,7 +95,7 @@ fn too_deep(src: &[u8], from: &[u32], open: usize) -> bool
         let tag = tag_at(&src[i..n], &from[i..n]);
         let size = rest_of(tag, &src[i..n]);
         depth = depth_after(tag, depth);
-        if LISTS_MOST < depth {
+        if DEEP_MOST < depth {
             return true;
         }
         i = i + size + 1;
@@ -93,54 +104,52 @@ fn too_deep(src: &[u8], from: &[u32], open: usize) -> bool
 }
 
 // Why the cells from a up to e, where `open` lists are open before them, are no longer taken: refusal 5 comes before refusal 6.
-fn stopped(a: usize, e: usize, work: &[u8], numbers: &[u32], open: usize) -> usize
-    requires { ⌜ ((a ≤ e) × («open» ≤ 64)) × ((e ≤ length (now work)) × ((e ≤ length (now numbers)) × (length (now numbers) ≤ 4294967295))) ⌝ }
-    ensures { λ r. ⌜ (18446744073709551614 ≤ r) × (deeper «open» (tokens 0 (cells (take (e - a) (drop a (now (work .entry)))) (take (e - a) (drop a (now (numbers .entry)))))) ≡ ltb 18446744073709551614 r) ⌝ }
+fn stopped(a: WorkAt, e: WorkAt, work: &[u8], numbers: &[u32], open: usize) -> Passed
+    requires { ⌜ ((a .0 ≤ e .0) × («open» ≤ deepMost)) × ((e .0 ≤ length (now work)) × ((e .0 ≤ length (now numbers)) × (length (now numbers) ≤ numberMost))) ⌝ }
+    ensures { λ r. ⌜ r ≡ cond (deeper «open» (tokens 0 (lent (a .0) (e .0) (now (work .entry)) (now (numbers .entry))))) TooDeep Full ⌝ }
 {
-    if too_deep(&work[a..e], &numbers[a..e], open) {
-        return DEEP;
+    let i = a.0;
+    let j = e.0;
+    if too_deep(&work[i..j], &numbers[i..j], open) {
+        return Passed::TooDeep;
     }
-    FULL
+    Passed::Full
 }
 
-// The list pass on the cells from a up to e of the pair (work, numbers). All open contents stand in the same pair from base up to end, as
-// many cells as out has, and the table behind them. The place behind the text, past the end where its need is more, and past FULL where the text
-// has an opener while as many lists are open as may be.
-pub fn list_pass(
-    a: usize,
-    e: usize,
-    base: usize,
-    end: usize,
-    work: &mut [u8],
-    numbers: &mut [u32],
-    out: &mut [u8],
-    origins: &mut [u32],
-) -> usize
-    requires { ⌜ ((a ≤ e) × ((e ≤ base) × (e ≤ a + 16777216))) × (((base + length (now out) ≡ end) × (length (now out) ≤ length (now origins))) × ((end ≤ length (now work)) × ((end + (e - a) ≤ length (now numbers)) × (length (now numbers) ≤ 4294967295)))) ⌝ }
-    ensures { λ r. ⌜ (tooDeep (part a e (cells (now (work .entry)) (now (numbers .entry)))) ≡ ltb 18446744073709551614 r) × (r ≤ 18446744073709551614 → Passed (length (now (out .entry))) (part a e (cells (now (work .entry)) (now (numbers .entry)))) base end (now (work .exit)) (now (numbers .exit)) r) ⌝ }
+// The list pass on the cells from a up to e of the pair (work, numbers), which stand before the areas. The text stands at the front of the contents.
+pub fn list_pass(a: WorkAt, e: WorkAt, areas: Areas, work: &mut [u8], numbers: &mut [u32]) -> Passed
+    requires { ⌜ PassRoom (a .0) (e .0) areas (now work) (now numbers) ⌝ }
+    ensures { λ r. ⌜ PassedIn (a .0) (e .0) areas (now (work .entry)) (now (numbers .entry)) (now (work .exit)) (now (numbers .exit)) r ⌝ }
 {
+    let end = areas.end.0;
+    let last = e.0;
+    let front = areas.base;
+    let base = front.0;
+    let table = areas.table;
     let mut st = Machine {
-        at: base,
-        top: end,
-        first: end,
+        at: front,
+        top: table,
+        first: table,
         second: false,
     };
+    let mut seen: usize = 0;
     let mut depth: usize = 0;
-    let mut i = a;
-    while i < e {
-        let tag = tag_at(&work[i..e], &numbers[i..e]);
-        let n = rest_of(tag, &work[i..e]);
-        let open = depth;
-        depth = depth_after(tag, depth);
-        if LISTS_MOST < depth {
-            return DEEP;
+    let mut i = a.0;
+    while i < last {
+        let tag = tag_at(&work[i..last], &numbers[i..last]);
+        let n = rest_of(tag, &work[i..last]);
+        let deep = depth_after(tag, depth);
+        if DEEP_MOST < deep {
+            return Passed::TooDeep;
         }
-        st = step(tag, n, i, st, base, end, work, numbers, out, origins);
-        let at = st.at;
+        seen = greater(seen, st.at.0 - base);
+        st = step(tag, n, WorkAt(i), st, areas, work, numbers);
+        let at = st.at.0;
         if end < at {
-            return stopped(i, e, work, numbers, open);
+            return stopped(WorkAt(i), e, work, numbers, depth);
         }
+        depth = deep;
         i = i + n + 1;
     }
-    finish_lists(st, base, end, work, numbers, out, origins)
+    finish_lists(st, seen, areas, work, numbers)
 }

@@ -1,40 +1,38 @@
 // One tag, or the text before the next one.
+use crate::close::Areas;
 use crate::close::Machine;
 use crate::close::close_list;
 use list_blocks::tag::Tag;
-use text::PostAt;
-use text::TextAt;
+use text::WorkAt;
 use text::area::copy_within;
 ghost use mathlib.Core.Path.{_≡_};
-ghost use mathlib.Core.List.{List};
-ghost use Prim.Native.Nat.{ℕ, _+_, _≤_, _<_};
+ghost use Prim.Native.Nat.{_+_, _≤_};
 ghost use lib.ListN.{length, take, drop};
-ghost use Rattle.text.specs.Cells.{Cell, cells};
+ghost use Rattle.text.specs.Bounds.{numberMost};
+ghost use Rattle.text.specs.Cells.{cells};
 ghost use Rattle.list_blocks.specs.Tags.{restOf};
-ghost use Rattle.list_blocks.specs.declared.tag.Tag.the-variants.{Opener, Item, Closer, Plain};
-ghost use Rattle.list_steps.specs.Standing.{Ready, Steps, kindOf, kept, stepBy, takeBy, pushed};
+ghost use Rattle.list_blocks.specs.declared.tag.Tag.the-variants.{Item, Closer};
+ghost use Rattle.list_steps.specs.Standing.{kindOf, kept, stepBy, takeBy, pushed, Spaced, ReadyIn, StepsIn, OpensIn};
 
 // Appends n cells of the source to the innermost content.
 fn keep(
-    i: usize,
+    i: WorkAt,
     n: usize,
     st: Machine,
-    base: usize,
-    end: usize,
+    areas: Areas,
     work: &mut [u8],
     numbers: &mut [u32],
 ) -> Machine
-    requires { ⌜ Ready (now work) (now numbers) base end (st .at) (st .top) (st .first) (st .second) × (i + n ≤ base) ⌝ }
-    ensures { λ r. ⌜ Steps (kept (take n (drop i (cells (now (work .entry)) (now (numbers .entry)))))) base (now (work .entry)) (now (numbers .entry)) end (st .at) (st .top) (st .first) (st .second) (now (work .exit)) (now (numbers .exit)) (r .at) (r .top) (r .first) (r .second) × (r .top ≤ st .top) × (end < r .at → take base (cells (now (work .exit)) (now (numbers .exit))) ≡ take base (cells (now (work .entry)) (now (numbers .entry)))) ⌝ }
+    requires { ⌜ ReadyIn (now work) (now numbers) areas st × (i .0 + n ≤ areas .base .0) ⌝ }
+    ensures { λ r. ⌜ StepsIn (kept (take n (drop (i .0) (cells (now (work .entry)) (now (numbers .entry)))))) 0 areas (now (work .entry)) (now (numbers .entry)) st (now (work .exit)) (now (numbers .exit)) r ⌝ }
 {
-    let at = st.at;
     let top = st.top;
     let first = st.first;
     let second = st.second;
-    let to = copy_within(work, numbers, PostAt(i), PostAt(i + n), end, TextAt(at));
-    let next = to.0;
+    let e = WorkAt(i.0 + n);
+    let to = copy_within(work, numbers, i, e, areas.end.0, st.at);
     Machine {
-        at: next,
+        at: to,
         top,
         first,
         second,
@@ -59,92 +57,75 @@ fn kind_of(ordered: bool, second: bool) -> u32
 
 // Opens a list: a frame more in the table.
 fn open_list(ordered: bool, st: Machine, numbers: &mut [u32]) -> Machine
-    requires { ⌜ (st .at ≤ 4294967295) × ((st .first ≤ 4294967295) × ((st .top + 3 ≤ length (now numbers)) × (length (now numbers) ≤ 4294967295))) ⌝ }
-    ensures { λ r. ⌜ ((n base end : ℕ) (bs : List ℕ) (y : List Cell) → st .at ≤ end → end ≤ length bs → Steps (stepBy (Opener n ordered) y) base bs (now (numbers .entry)) end (st .at) (st .top) (st .first) (st .second) bs (now (numbers .exit)) (r .at) (r .top) (r .first) (r .second)) × (r .top ≡ st .top + 3) × (r .at ≡ st .at) ⌝ }
+    requires { ⌜ (st .at .0 ≤ numberMost) × ((st .first .0 ≤ numberMost) × ((st .top .0 + 3 ≤ length (now numbers)) × (length (now numbers) ≤ numberMost))) ⌝ }
+    ensures { λ r. ⌜ OpensIn ordered (now (numbers .entry)) st (now (numbers .exit)) r × (r .top .0 ≡ st .top .0 + 3) ⌝ }
 {
     let at = st.at;
-    let top = st.top;
-    let first = st.first;
+    let first = st.top;
+    let top = first.0;
     let kind = kind_of(ordered, st.second);
-    numbers[top] = first as u32;
+    numbers[top] = st.first.0 as u32;
     numbers[top + 1] = kind;
-    numbers[top + 2] = at as u32;
+    numbers[top + 2] = at.0 as u32;
     Machine {
         at,
-        top: top + 3,
-        first: top,
+        top: WorkAt(top + 3),
+        first,
         second: false,
     }
 }
 
 // Begins an item; outside a list `[*]` stays text.
-fn start_item(
-    i: usize,
-    st: Machine,
-    base: usize,
-    end: usize,
-    work: &mut [u8],
-    numbers: &mut [u32],
-) -> Machine
-    requires { ⌜ Ready (now work) (now numbers) base end (st .at) (st .top) (st .first) (st .second) × ((i + 3 ≤ base) × (st .top + 1 ≤ length (now numbers))) ⌝ }
-    ensures { λ r. ⌜ Steps (stepBy Item (drop i (cells (now (work .entry)) (now (numbers .entry))))) base (now (work .entry)) (now (numbers .entry)) end (st .at) (st .top) (st .first) (st .second) (now (work .exit)) (now (numbers .exit)) (r .at) (r .top) (r .first) (r .second) × (r .top ≤ st .top + 1) × (end < r .at → take base (cells (now (work .exit)) (now (numbers .exit))) ≡ take base (cells (now (work .entry)) (now (numbers .entry)))) ⌝ }
+fn start_item(i: WorkAt, st: Machine, areas: Areas, work: &mut [u8], numbers: &mut [u32]) -> Machine
+    requires { ⌜ ReadyIn (now work) (now numbers) areas st × ((i .0 + 3 ≤ areas .base .0) × (st .top .0 + 1 ≤ length (now numbers))) ⌝ }
+    ensures { λ r. ⌜ StepsIn (stepBy Item (drop (i .0) (cells (now (work .entry)) (now (numbers .entry))))) 1 areas (now (work .entry)) (now (numbers .entry)) st (now (work .exit)) (now (numbers .exit)) r ⌝ }
 {
-    let at = st.at;
-    let top = st.top;
-    let first = st.first;
-    if top == end {
-        return keep(i, 3, st, base, end, work, numbers);
+    let top = st.top.0;
+    let table = areas.table.0;
+    if top == table {
+        return keep(i, 3, st, areas, work, numbers);
     }
-    numbers[top] = at as u32;
+    let at = st.at;
+    let first = st.first;
+    numbers[top] = at.0 as u32;
     Machine {
         at,
-        top: top + 1,
+        top: WorkAt(top + 1),
         first,
         second: false,
     }
 }
 
 // Ends a list; outside a list `[/list]` stays text.
-fn end_list(
-    i: usize,
-    st: Machine,
-    base: usize,
-    end: usize,
-    work: &mut [u8],
-    numbers: &mut [u32],
-    out: &mut [u8],
-    origins: &mut [u32],
-) -> Machine
-    requires { ⌜ Ready (now work) (now numbers) base end (st .at) (st .top) (st .first) (st .second) × ((i + 7 ≤ base) × ((base + length (now out) ≡ end) × (length (now out) ≤ length (now origins)))) ⌝ }
-    ensures { λ r. ⌜ Steps (stepBy Closer (drop i (cells (now (work .entry)) (now (numbers .entry))))) base (now (work .entry)) (now (numbers .entry)) end (st .at) (st .top) (st .first) (st .second) (now (work .exit)) (now (numbers .exit)) (r .at) (r .top) (r .first) (r .second) × (r .top ≤ st .top) × (end < r .at → take base (cells (now (work .exit)) (now (numbers .exit))) ≡ take base (cells (now (work .entry)) (now (numbers .entry)))) ⌝ }
+fn end_list(i: WorkAt, st: Machine, areas: Areas, work: &mut [u8], numbers: &mut [u32]) -> Machine
+    requires { ⌜ ReadyIn (now work) (now numbers) areas st × ((i .0 + 7 ≤ areas .base .0) × Spaced areas (length (now work)) (length (now numbers))) ⌝ }
+    ensures { λ r. ⌜ StepsIn (stepBy Closer (drop (i .0) (cells (now (work .entry)) (now (numbers .entry))))) 0 areas (now (work .entry)) (now (numbers .entry)) st (now (work .exit)) (now (numbers .exit)) r ⌝ }
 {
-    let top = st.top;
-    if top == end {
-        return keep(i, 7, st, base, end, work, numbers);
+    let top = st.top.0;
+    let table = areas.table.0;
+    if top == table {
+        return keep(i, 7, st, areas, work, numbers);
     }
-    close_list(st, base, end, work, numbers, out, origins)
+    close_list(st, areas, work, numbers)
 }
 
 // Takes n cells behind the first, at place i of the source: one tag, or text.
 pub fn step(
     tag: Tag,
     n: usize,
-    i: usize,
+    i: WorkAt,
     st: Machine,
-    base: usize,
-    end: usize,
+    areas: Areas,
     work: &mut [u8],
     numbers: &mut [u32],
-    out: &mut [u8],
-    origins: &mut [u32],
 ) -> Machine
-    requires { ⌜ Ready (now work) (now numbers) base end (st .at) (st .top) (st .first) (st .second) × (((i + (1 + n) ≤ base) × (restOf tag ≤ n)) × ((st .top + pushed tag ≤ length (now numbers)) × ((base + length (now out) ≡ end) × (length (now out) ≤ length (now origins))))) ⌝ }
-    ensures { λ r. ⌜ Steps (takeBy tag n (drop i (cells (now (work .entry)) (now (numbers .entry))))) base (now (work .entry)) (now (numbers .entry)) end (st .at) (st .top) (st .first) (st .second) (now (work .exit)) (now (numbers .exit)) (r .at) (r .top) (r .first) (r .second) × (r .top ≤ st .top + pushed tag) × (end < r .at → take base (cells (now (work .exit)) (now (numbers .exit))) ≡ take base (cells (now (work .entry)) (now (numbers .entry)))) ⌝ }
+    requires { ⌜ ReadyIn (now work) (now numbers) areas st × (((i .0 + (1 + n) ≤ areas .base .0) × (restOf tag ≤ n)) × ((st .top .0 + pushed tag ≤ length (now numbers)) × Spaced areas (length (now work)) (length (now numbers)))) ⌝ }
+    ensures { λ r. ⌜ StepsIn (takeBy tag n (drop (i .0) (cells (now (work .entry)) (now (numbers .entry))))) (pushed tag) areas (now (work .entry)) (now (numbers .entry)) st (now (work .exit)) (now (numbers .exit)) r ⌝ }
 {
     match tag {
         Tag::Opener(_, ordered) => open_list(ordered, st, numbers),
-        Tag::Item => start_item(i, st, base, end, work, numbers),
-        Tag::Closer => end_list(i, st, base, end, work, numbers, out, origins),
-        Tag::Plain => keep(i, n + 1, st, base, end, work, numbers),
+        Tag::Item => start_item(i, st, areas, work, numbers),
+        Tag::Closer => end_list(i, st, areas, work, numbers),
+        Tag::Plain => keep(i, n + 1, st, areas, work, numbers),
     }
 }

@@ -8,6 +8,7 @@ ghost use Prim.Native.Nat.{_≤_, min};
 ghost use mathlib.Core.Bool.{cond};
 ghost use lib.Dec.{eqb};
 ghost use lib.ListN.{length, take};
+ghost use Rattle.text.specs.Bounds.{outMost};
 ghost use Rattle.text.specs.Ascii.{ascii};
 ghost use Rattle.text.specs.Decimal.{decimal};
 ghost use Rattle.listing.specs.Listing.{escapedByte, escaped, copied, line, field, loss, lossLines, sizes, counts, listing, Adds};
@@ -187,7 +188,7 @@ pub fn put_listing(
     nums: &mut [u32],
     at: TextAt,
 ) -> TextAt
-    requires { ⌜ (length (now text) ≡ length (now origins)) × ((length (now text) ≤ 16777216) × ((count ≤ 64) × (length records ≡ 64))) ⌝ }
+    requires { ⌜ (length (now text) ≡ length (now origins)) × ((length (now text) ≤ outMost) × ((count ≤ 64) × (length records ≡ 64))) ⌝ }
     ensures { λ r. ⌜ Adds (now (buf .entry)) (now (nums .entry)) (at .0) (now (buf .exit)) (now (nums .exit)) (r .0) (listing (now (text .entry)) (now (origins .entry)) (take count records) (now (words .entry))) ⌝ }
 {
     let n = count_copied(origins);

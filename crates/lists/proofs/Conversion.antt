@@ -4,64 +4,75 @@ use mathlib.Core.Bool.{true, false}
 use mathlib.Core.List.{List, []}
 use Prim.Native.Nat.{ℕ, _+_, _-_, _≤_, _<_}
 use native.Mathlib.Omega.{arith}
-use native.Mathlib.Decide.{decLe}
-use lib.ListN.{length}
-use lib.Dec.{ltb}
+use lib.ListN.{length, take, drop, length-take, length-drop}
 use borrow.Author.Tests.{lt-ltb, le-ltb}
 use Rattle.text.specs.Cells.{Cell, cells, cellsOf, part}
 use Rattle.text.specs.Writes.{LaidOut}
 use Rattle.lending.specs.declared.lent.Refusal.the-variants.{TooDeep, NoSpace}
 use Rattle.lists.specs.declared.Listed.{Listed}
 use Rattle.lists.specs.declared.Listed.the-variants.{Done, Refused}
-use Rattle.list_blocks.specs.Tags.{tooDeep}
+use Rattle.list_blocks.specs.Tags.{tokens, pushes, tooDeep}
 use Rattle.list_blocks.specs.Lists.{lists, listsNeed}
-use Rattle.list_steps.specs.Standing.{Passed}
+use Rattle.list_steps.specs.Standing.{Written}
 use Rattle.lending.specs.Lent.{checked}
 use Rattle.lending.specs.declared.lent.Refusal.{Refusal}
 use Rattle.lending.specs.declared.lent.Spans.the-variants.{Without}
 use Rattle.lending.specs.declared.lent.Checked.{Checked}
 use Rattle.lending.specs.declared.lent.Checked.the-variants as C
 use Rattle.lists.specs.Calls.{converted, answerBy, answered, Called, Converted}
+use Rattle.list_blocks.proofs.Pushes.{pushes-length}
 use Rattle.list_steps.proofs.Needs.{lists-fits}
 
-pub called-deep : (text : List ℕ) (y : List Cell) (m k r : ℕ) (l : Listed) {out plain : List ℕ} → y ≡ cellsOf text → tooDeep y ≡ ltb 18446744073709551614 r → 18446744073709551614 < r
-    → l ≡ Refused TooDeep → LaidOut [] m k out plain → Converted text m k l out plain
-unfolding converted
-called-deep text y m k r l z d far g laid =
-    let f : tooDeep (cellsOf text) ≡ true = ap tooDeep (sym z) ∙ d ∙ lt-ltb 18446744073709551614 r far in
-    rw g (record { answer = rw f; laid = laid })
+-- ---- the pass
 
-module _ (text : List ℕ) (y : List Cell) (m k base end r : ℕ) (bs ns : List ℕ) (z : y ≡ cellsOf text) (d : tooDeep y ≡ ltb 18446744073709551614 r) (near : r ≤ 18446744073709551614)
-    (area : base + m ≡ end) (p : Passed m y base end bs ns r) where
-  fine : tooDeep (cellsOf text) ≡ false
-  fine = ap tooDeep (sym z) ∙ d ∙ le-ltb 18446744073709551614 r near
+-- the table's room
+pub table-fits : (a e table numbers : ℕ) (v : List Cell) → table + (e - a) ≤ numbers → table + pushes (tokens 0 (part a e v)) ≤ numbers
+unfolding part
+table-fits a e table numbers v h =
+    let p = pushes-length (drop a (take e v)) in
+    let d = length-drop a (take e v) in
+    let t = length-take e v in
+    omega (arith, h, p, d, t)
 
-  same-need : listsNeed y ≡ listsNeed (cellsOf text)
-  same-need = ap listsNeed z
+-- the text stands at the front
+pub at-front : (n : ℕ) (v x : List Cell) → part 0 (0 + n) v ≡ x → part 0 n v ≡ x
+at-front n v x z = let e : n ≡ 0 + n = omega arith in ap (λ (k : ℕ). part 0 k v) e ∙ z
 
-  pub called-full : (l : Listed) {out plain : List ℕ} → end < r → l ≡ Refused NoSpace → LaidOut [] m k out plain → Converted text m k l out plain
+module _ (text : List ℕ) (y : List Cell) (m k room : ℕ) (l : Listed) (out plain : List ℕ) (z : y ≡ cellsOf text) (q : room ≡ m) where
+  pub called-deep : tooDeep y ≡ true → l ≡ Refused TooDeep → LaidOut [] m k out plain → Converted text m k l out plain
   unfolding converted
-  called-full l far g laid =
-      let n = same-need in
-      let f = lists-fits y in
-      let over : m < listsNeed (cellsOf text) = elim (decLe (listsNeed y) m) [ yes h ↦ absurd (let w = p .done h .0 in omega arith) | no h ↦ omega arith ] in
-      rw g (record { answer = rw (fine, lt-ltb m (listsNeed (cellsOf text)) over); laid = laid })
+  called-deep d g laid =
+      let f : tooDeep (cellsOf text) ≡ true = ap tooDeep (sym z) ∙ d in
+      rw g (record { answer = rw f; laid = laid })
 
-  pub called-done : (size : ℕ) {out plain : List ℕ} → r ≤ end → base ≤ r → size ≡ r - base → LaidOut (part base r (cells bs ns)) m k out plain
-      → Converted text m k (Done size) out plain
+  pub called-full : (tooDeep y ≡ false) × (room < listsNeed y) → l ≡ Refused NoSpace → LaidOut [] m k out plain → Converted text m k l out plain
   unfolding converted
-  called-done size fit up g laid =
-      let n = same-need in
-      let in-room : listsNeed y ≤ m = elim (decLe (listsNeed y) m) [ yes h ↦ h | no h ↦ absurd (let w = p .full (omega arith) in omega arith) ] in
-      let w = p .done in-room in
-      let s : size ≡ length (lists (cellsOf text)) = (let a = w .0 in let b : length (lists y) ≡ length (lists (cellsOf text)) = ap (λ (c : List Cell). length (lists c)) z in omega arith) in
-      let c : part base r (cells bs ns) ≡ lists (cellsOf text) = w .1 ∙ ap lists z in
-      record { answer = rw (fine, le-ltb m (listsNeed (cellsOf text)) (omega arith), s); laid = rw (← c) laid }
+  called-full d g laid =
+      let f : tooDeep (cellsOf text) ≡ false = ap tooDeep (sym z) ∙ d .0 in
+      let n : listsNeed y ≡ listsNeed (cellsOf text) = ap listsNeed z in
+      let over : m < listsNeed (cellsOf text) = (let o = d .1 in omega arith) in
+      rw g (record { answer = rw (f, lt-ltb m (listsNeed (cellsOf text)) over); laid = laid })
 
--- the text stands behind the base
-pub passed-up : (m : ℕ) (y : List Cell) (base end r : ℕ) (bs ns : List ℕ) → base + m ≡ end → Passed m y base end bs ns r → r ≤ end → base ≤ r
-passed-up m y base end r bs ns area p fit =
-    elim (decLe (listsNeed y) m) [ yes h ↦ (let w = p .done h .0 in omega arith) | no h ↦ absurd (let w = p .full (omega arith) in omega arith) ]
+  pub called-done : (base r need : ℕ) (bs ns : List ℕ) → (tooDeep y ≡ false) × Written y base room bs ns r need → l ≡ Done (r - base) → LaidOut (part base r (cells bs ns)) m k out plain
+      → Converted text m k l out plain
+  unfolding converted
+  called-done base r need bs ns d g laid =
+      let f : tooDeep (cellsOf text) ≡ false = ap tooDeep (sym z) ∙ d .0 in
+      let w = d .1 in
+      let n : listsNeed y ≡ listsNeed (cellsOf text) = ap listsNeed z in
+      let in-room : listsNeed (cellsOf text) ≤ m = (let a = w .needs in let b = w .fits in omega arith) in
+      let s : r - base ≡ length (lists (cellsOf text)) = (let a = w .end in let b : length (lists y) ≡ length (lists (cellsOf text)) = ap (λ (c : List Cell). length (lists c)) z in omega arith) in
+      let c : part base r (cells bs ns) ≡ lists (cellsOf text) = w .text ∙ ap lists z in
+      rw g (record { answer = rw (f, le-ltb m (listsNeed (cellsOf text)) in-room, s); laid = rw (← c) laid })
+
+-- where the text ends
+pub written-end : {x : List Cell} {base m r need : ℕ} {bs ns : List ℕ} → Written x base m bs ns r need → (base ≤ r) × (r ≤ base + m)
+written-end {x} w =
+    let e = w .end in
+    let a = w .needs in
+    let b = w .fits in
+    let f = lists-fits x in
+    (omega arith, omega arith)
 
 -- ---- the whole call
 

@@ -4,17 +4,20 @@ use lending::lent::Lent;
 use lending::lent::Refusal;
 use lending::lent::Spans;
 use lending::lent::check;
-use list_steps::pass::FULL;
+use list_steps::close::Areas;
+use list_steps::pass::Passed;
 use list_steps::pass::list_pass;
-use text::PostAt;
-use text::blank::number;
-use text::source::set_source;
+use text::WorkAt;
+use text::bounds::numbers_size;
+use text::source::set_cells;
 use text::write::lay_nothing;
 use text::write::lay_part;
 ghost use mathlib.Core.Path.{_≡_};
-ghost use Prim.Native.Nat.{_+_, _-_, _*_, _≤_};
+ghost use Prim.Native.Nat.{_+_, _-_, _≤_};
 ghost use mathlib.Core.List.{[]};
 ghost use lib.ListN.{length};
+ghost use Rattle.text.specs.Bounds.{Room, numberMost};
+ghost use Rattle.text.specs.Cells.{cells, part};
 ghost use Rattle.text.specs.Writes.{LaidOut};
 ghost use Rattle.lists.specs.Calls.{Called, Converted};
 ghost use Rattle.lists.specs.declared.Listed.the-variants.{Done, Refused};
@@ -33,7 +36,25 @@ fn refuse(r: Refusal, out: &mut [u8], origins: &mut [u32]) -> Listed
     Listed::Refused(r)
 }
 
-// Converts a text that is right, in memory that is large enough.
+// Lays out the text, which stands in work memory from a up to e.
+fn lay_text(
+    a: WorkAt,
+    e: WorkAt,
+    work: &[u8],
+    numbers: &[u32],
+    out: &mut [u8],
+    origins: &mut [u32],
+) -> Listed
+    requires { ⌜ ((a .0 ≤ e .0) × ((e .0 ≤ length (now work)) × (e .0 ≤ length (now numbers)))) × ((e .0 ≤ a .0 + length (now out)) × (e .0 ≤ a .0 + length (now origins))) ⌝ }
+    ensures { λ l. ⌜ (l ≡ Done (e .0 - a .0)) × LaidOut (part (a .0) (e .0) (cells (now (work .entry)) (now (numbers .entry)))) (length (now (out .entry))) (length (now (origins .entry))) (now (out .exit)) (now (origins .exit)) ⌝ }
+{
+    let from = a.0;
+    let to = e.0;
+    lay_part(work, numbers, a, e, out, origins);
+    Listed::Done(to - from)
+}
+
+// Converts a text that is right, in memory that is large enough: the text stands at its front, and the areas of the pass behind it.
 fn convert(
     text: &[u8],
     work: &mut [u8],
@@ -41,22 +62,23 @@ fn convert(
     out: &mut [u8],
     origins: &mut [u32],
 ) -> Listed
-    requires { ⌜ ((length (now text) ≤ 262144) × ((length (now out) ≤ 16777216) × (length (now out) ≤ length (now origins)))) × ((length (now text) + length (now out) ≤ length (now work)) × ((2 * length (now text) + length (now out) ≤ length (now numbers)) × (length (now numbers) ≤ 4294967295))) ⌝ }
+    requires { ⌜ (Room (length (now text)) (length (now out)) (length (now work)) (length (now numbers)) × (length (now out) ≤ length (now origins))) × (length (now numbers) ≤ numberMost) ⌝ }
     ensures { λ r. ⌜ Converted (now (text .entry)) (length (now (out .entry))) (length (now (origins .entry))) r (now (out .exit)) (now (origins .exit)) ⌝ }
 {
     let n = text.len();
-    let end = n + out.len();
-    number(text, numbers);
-    set_source(text, work);
-    let r = list_pass(0, n, n, end, work, numbers, out, origins);
-    if FULL < r {
-        return refuse(Refusal::TooDeep, out, origins);
+    let m = out.len();
+    set_cells(text, work, numbers, WorkAt(0));
+    let areas = Areas {
+        base: WorkAt(n),
+        end: WorkAt(n + m),
+        table: WorkAt(n + 2 * m),
+    };
+    let passed = list_pass(WorkAt(0), WorkAt(n), areas, work, numbers);
+    match passed {
+        Passed::Done(e, _) => lay_text(WorkAt(n), e, work, numbers, out, origins),
+        Passed::Full => refuse(Refusal::NoSpace, out, origins),
+        Passed::TooDeep => refuse(Refusal::TooDeep, out, origins),
     }
-    if end < r {
-        return refuse(Refusal::NoSpace, out, origins);
-    }
-    lay_part(work, numbers, PostAt(n), PostAt(r), out, origins);
-    Listed::Done(r - n)
 }
 
 // Lends the conversion as many numbers as document 01 asks for: more than a `u32` can count may be lent.
@@ -67,10 +89,10 @@ fn convert_in(
     out: &mut [u8],
     origins: &mut [u32],
 ) -> Listed
-    requires { ⌜ ((length (now text) ≤ 262144) × ((length (now out) ≤ 16777216) × (length (now out) ≤ length (now origins)))) × ((length (now text) + 3 * length (now out) ≤ length (now work)) × (8 * length (now text) + 3 * length (now out) + 64 ≤ length (now numbers))) ⌝ }
+    requires { ⌜ Room (length (now text)) (length (now out)) (length (now work)) (length (now numbers)) × (length (now out) ≤ length (now origins)) ⌝ }
     ensures { λ r. ⌜ Converted (now (text .entry)) (length (now (out .entry))) (length (now (origins .entry))) r (now (out .exit)) (now (origins .exit)) ⌝ }
 {
-    let used = 8 * text.len() + 3 * out.len() + 64;
+    let used = numbers_size(text.len(), out.len());
     convert(text, work, &mut numbers[..used], out, origins)
 }
 

@@ -1,4 +1,4 @@
-// The items of a text in the lent numbers: for a text of n bytes the bounds of item j's bytes at n + j and n + j + 1, its code at 2n + 2 + j,
+// The items of a text of n bytes in work numbers, behind the codes of its cells: the bounds of item j's bytes at n + j and n + j + 1, its code at 2n + 2 + j,
 // and from 3n + 3 on a stack. Codes: 0 text, 1 a tag that vanishes, 2 the end of a mark's slot, 4 to 7 the start of a mark (by kind),
 // 8 to 11 an opener of which it is not known yet whether it is closed.
 use mark_tags::tags::tag_at;
@@ -8,12 +8,13 @@ ghost use mathlib.Core.Path.{_≡_};
 ghost use mathlib.Core.List.{[]};
 ghost use Prim.Native.Nat.{_+_, _*_, _≤_, _<_};
 ghost use lib.ListN.{length};
+ghost use Rattle.text.specs.Bounds.{textMost};
 ghost use Rattle.mark_tags.specs.Marks.{ends, no-kinds};
 ghost use Rattle.mark_tags.specs.Flat.{numberedTag, codeOf, widthOf, stackOf, withItem, Stacked, Tagged, settled, SettledItem, merged, MergedItem, bitOf, Recodes, Itemed};
 
 // Item j, which ends at `end`.
 fn put_item(nums: &mut [u32], n: usize, j: usize, end: usize, code: u32)
-    requires { ⌜ ((j ≤ n) × (end ≤ n)) × ((n ≤ 262144) × (4 * n + 4 ≤ length (now nums))) ⌝ }
+    requires { ⌜ ((j ≤ n) × (end ≤ n)) × ((n ≤ textMost) × (4 * n + 4 ≤ length (now nums))) ⌝ }
     ensures { λ _. ⌜ now (nums .exit) ≡ withItem (now (nums .entry)) n j end code ⌝ }
 {
     nums[n + j + 1] = end as u32;
@@ -22,7 +23,7 @@ fn put_item(nums: &mut [u32], n: usize, j: usize, end: usize, code: u32)
 
 // The code of a tag's item: a closer ends the innermost of the open marks if the kinds are equal, else it only vanishes.
 fn code_of(nums: &[u32], n: usize, depth: usize, tag: u32) -> u32
-    requires { ⌜ (depth ≤ n + 1) × ((n ≤ 262144) × (4 * n + 4 ≤ length (now nums))) ⌝ }
+    requires { ⌜ (depth ≤ n + 1) × ((n ≤ textMost) × (4 * n + 4 ≤ length (now nums))) ⌝ }
     ensures { λ r. ⌜ r ≡ codeOf tag (ends (numberedTag tag) (stackOf (now (nums .entry)) n depth)) ⌝ }
 {
     if tag < 12 {
@@ -48,7 +49,7 @@ fn width_of(tag: u32) -> usize
 
 // The stack of open kinds after a tag with its item's code.
 fn stack_after(nums: &mut [u32], n: usize, depth: usize, tag: u32, code: u32) -> usize
-    requires { ⌜ ((depth ≤ n) × (code ≡ codeOf tag (ends (numberedTag tag) (stackOf (now nums) n depth)))) × ((n ≤ 262144) × (4 * n + 4 ≤ length (now nums))) ⌝ }
+    requires { ⌜ ((depth ≤ n) × (code ≡ codeOf tag (ends (numberedTag tag) (stackOf (now nums) n depth)))) × ((n ≤ textMost) × (4 * n + 4 ≤ length (now nums))) ⌝ }
     ensures { λ r. ⌜ Stacked (now (nums .entry)) (now (nums .exit)) n depth tag r ⌝ }
 {
     if tag < 12 {
@@ -63,7 +64,7 @@ fn stack_after(nums: &mut [u32], n: usize, depth: usize, tag: u32, code: u32) ->
 
 // Reads the tags of a text. The number of items.
 pub fn read_tags(text: &[u8], nums: &mut [u32]) -> usize
-    requires { ⌜ (length (now text) ≤ 262144) × (4 * length (now text) + 4 ≤ length (now nums)) ⌝ }
+    requires { ⌜ (length (now text) ≤ textMost) × (4 * length (now text) + 4 ≤ length (now nums)) ⌝ }
     ensures { λ r. ⌜ Tagged (now (text .entry)) (now (nums .entry)) (now (nums .exit)) r ⌝ }
 {
     let n = text.len();
@@ -91,7 +92,7 @@ pub fn read_tags(text: &[u8], nums: &mut [u32]) -> usize
 
 // Settles item j: an opener is text if no mark that is closed behind it begins there.
 fn settle_item(nums: &mut [u32], n: usize, j: usize, closes: usize) -> usize
-    requires { ⌜ ((j ≤ n) × (closes ≤ n + 1)) × ((n ≤ 262144) × (4 * n + 4 ≤ length (now nums))) ⌝ }
+    requires { ⌜ ((j ≤ n) × (closes ≤ n + 1)) × ((n ≤ textMost) × (4 * n + 4 ≤ length (now nums))) ⌝ }
     ensures { λ r. ⌜ SettledItem (now (nums .entry)) (now (nums .exit)) n j closes r ⌝ }
 {
     let code = nums[2 * n + 2 + j];
@@ -111,7 +112,7 @@ fn settle_item(nums: &mut [u32], n: usize, j: usize, closes: usize) -> usize
 
 // Settles k items, from the right.
 pub fn settle(nums: &mut [u32], n: usize, k: usize)
-    requires { ⌜ (k ≤ n + 1) × ((n ≤ 262144) × (4 * n + 4 ≤ length (now nums))) ⌝ }
+    requires { ⌜ (k ≤ n + 1) × ((n ≤ textMost) × (4 * n + 4 ≤ length (now nums))) ⌝ }
     ensures { λ _. ⌜ Recodes (λ f. settled f .flat) n k (now (nums .entry)) (now (nums .exit)) ⌝ }
 {
     let mut closes: usize = 0;
@@ -146,7 +147,7 @@ pub fn bit_of(kind: u32) -> u32
 
 // Merges item j: a mark inside one of its own kind vanishes.
 fn merge_item(nums: &mut [u32], n: usize, j: usize, state: Open) -> Open
-    requires { ⌜ ((j ≤ n) × ((state .depth ≤ j) × (state .mask < 16))) × ((n ≤ 262144) × (4 * n + 4 ≤ length (now nums))) ⌝ }
+    requires { ⌜ ((j ≤ n) × ((state .depth ≤ j) × (state .mask < 16))) × ((n ≤ textMost) × (4 * n + 4 ≤ length (now nums))) ⌝ }
     ensures { λ r. ⌜ MergedItem (now (nums .entry)) (now (nums .exit)) n j (state .mask) (state .depth) (r .mask) (r .depth) ⌝ }
 {
     let mask = state.mask;
@@ -194,7 +195,7 @@ fn merge_item(nums: &mut [u32], n: usize, j: usize, state: Open) -> Open
 
 // Merges k items, from the left.
 pub fn merge(nums: &mut [u32], n: usize, k: usize)
-    requires { ⌜ (k ≤ n + 1) × ((n ≤ 262144) × (4 * n + 4 ≤ length (now nums))) ⌝ }
+    requires { ⌜ (k ≤ n + 1) × ((n ≤ textMost) × (4 * n + 4 ≤ length (now nums))) ⌝ }
     ensures { λ _. ⌜ Recodes (λ f. merged f no-kinds []) n k (now (nums .entry)) (now (nums .exit)) ⌝ }
 {
     let mut state = Open { mask: 0, depth: 0 };
@@ -207,7 +208,7 @@ pub fn merge(nums: &mut [u32], n: usize, k: usize)
 
 // Reads a text's items: its tags, which openers are closed, which marks are merged. The number of items.
 pub fn read_items(text: &[u8], nums: &mut [u32]) -> usize
-    requires { ⌜ (length (now text) ≤ 262144) × (4 * length (now text) + 4 ≤ length (now nums)) ⌝ }
+    requires { ⌜ (length (now text) ≤ textMost) × (4 * length (now text) + 4 ≤ length (now nums)) ⌝ }
     ensures { λ r. ⌜ Itemed (now (text .entry)) (now (nums .entry)) (now (nums .exit)) r ⌝ }
 {
     let k = read_tags(text, nums);

@@ -1,7 +1,9 @@
 -- What the functions that write a slot say of the text and of the lent spans.
 --   raised by l      numbers raised by `by`
+--   Raisable ss a e  the numbers of ss from a up to e can be raised
 --   marksIn t        how many marks items hold, at every depth
---   Finished ..      a mark's delimiters stand around its body, and its span before those inside it
+--   Finishable ..    a mark starts at place p, its body ends at `at`, its span is to be listed at c, and the spans inside it end at e
+--   Finished ..      such a mark's delimiters stand around its body, and its span before those inside it
 --   Writes ..        a text and its spans have been written: from v at `at` and ss at c to v' at `at'` and ss' at c'
 -- Assumes nothing.
 use mathlib.Core.Path.{_≡_}
@@ -10,6 +12,7 @@ use Prim.Native.Nat.{ℕ, suc, _+_, _-_, _*_, _%_, _≤_, _<_}
 use lib.ListN.{length, take, drop, getD}
 use mathlib.Core.Bool.{Bool, true, false, cond}
 use Rattle.text.specs.Ascii.{is}
+use Rattle.text.specs.Bounds.{textMost, outMost}
 use Rattle.text.specs.Cells.{Cell, cells}
 use Rattle.text.specs.Writes.{Holds, Appends}
 use Rattle.mark_tags.specs.Marks.{Items, end, text, gone, mark, Written, shift, spanNumbers, start, write, content, next, Step, markStep, braced, escapeLast}
@@ -17,6 +20,9 @@ use Rattle.mark_tags.specs.Flat.{within, beyond, slotAt, Held, Fresh, kindNumbe
 
 abbrev pub raised : (by : ℕ) → List ℕ → List ℕ
 raised by = map (λ x. x + by)
+
+abbrev pub Raisable : (ss : List ℕ) → (a e : ℕ) → Type 0
+Raisable ss a e = (i : ℕ) → a ≤ i → i < e → getD ss i 0 ≤ outMost
 
 unfoldable pub marksIn : Items → ℕ
 marksIn end = 0
@@ -36,9 +42,15 @@ pub record Slot (src ns : List ℕ) (k from mask : ℕ) (out origins : List ℕ)
   pub up-to : from ≤ k
   pub small : mask < 16
   pub fresh : Fresh (kindsOf mask) (within (slotAt src ns k from))
-  pub short : length out ≤ 16777216
+  pub short : length out ≤ outMost
   pub wide : length out ≤ length origins
-  pub few : c + 2 * marksIn (within (slotAt src ns k from)) ≤ 262144
+  pub few : c + 2 * marksIn (within (slotAt src ns k from)) ≤ textMost
+
+-- what finishing a mark is asked, with `before` before it and `next` behind it
+abbrev pub Finishable : (out origins : List ℕ) → (p at : ℕ) → (ss : List ℕ) → (c e before next : ℕ) → Type 0
+Finishable out origins p at ss c e before next =
+    (((p + 1 < at) × (at ≤ length out)) × ((length out ≤ length origins) × (length out ≤ outMost)))
+    × ((c + 2 ≤ e) × (((before ≤ 256) × (next ≤ 256)) × (e ≤ length ss → Raisable ss (c + 2) e)))
 
 -- a mark that starts at place p with its opening delimiter, of which the body ends at `at` and the spans inside it at e, has been finished
 pub record Finished (out origins : List ℕ) (p at : ℕ) (ss : List ℕ) (c e d before next : ℕ) (out' origins' : List ℕ) (to : ℕ) (ss' : List ℕ) (braces : Bool) : Type 0 where

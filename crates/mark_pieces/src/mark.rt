@@ -2,20 +2,22 @@
 use crate::class::is_braced;
 use crate::piece::insert;
 use crate::piece::is_even;
-use text::TextAt;
+use text::WorkAt;
+use text::area::put_sign_in;
 use text::scan::one_if;
-use text::write::put_sign;
 ghost use mathlib.Core.Path.{_≡_};
 ghost use mathlib.Core.Bool.{true};
-ghost use Prim.Native.Nat.{ℕ, _≤_, _<_};
+ghost use Prim.Native.Nat.{_≤_, _<_};
 ghost use mathlib.Core.List.{_∷_, _++_};
 ghost use lib.ListN.{length, take, drop, getD};
 ghost use Prim.Native.Nat.{_+_, _-_};
 ghost use Rattle.text.specs.Ascii.{is};
+ghost use Rattle.text.specs.Bounds.{outMost};
 ghost use Rattle.text.specs.Cells.{cells};
-ghost use Rattle.mark_tags.specs.Marks.{delimiter, braced, escapeLast, closing};
+ghost use Rattle.mark_tags.specs.Marks.{delimiter, braced, escapeLast};
 ghost use Rattle.mark_tags.specs.Flat.{kindNumbered, Becomes, behindBrace};
-ghost use Rattle.mark_pieces.specs.Spans.{raised, Finished};
+ghost use Rattle.mark_pieces.specs.Spans.{raised, Raisable, Finishable, Finished};
+ghost use Rattle.mark_pieces.specs.Behind.{FinishedIn};
 
 // The delimiter of a kind.
 pub fn delimiter_of(kind: u32) -> u8
@@ -34,28 +36,30 @@ pub fn delimiter_of(kind: u32) -> u8
 }
 
 // Whether the mark whose body stands from place p up to `end` takes the braced form.
-pub fn takes_braces(buf: &[u8], p: usize, end: usize, d: u8, before: usize, next: usize) -> bool
-    requires { ⌜ ((p < end) × (end ≤ length (now buf))) × ((before ≤ 256) × (next ≤ 256)) ⌝ }
-    ensures { λ r. ⌜ r ≡ braced d (getD (now (buf .entry)) p 0) (getD (now (buf .entry)) (end - 1) 0) before next ⌝ }
+pub fn takes_braces(buf: &[u8], p: WorkAt, end: WorkAt, d: u8, before: usize, next: usize) -> bool
+    requires { ⌜ ((p .0 < end .0) × (end .0 ≤ length (now buf))) × ((before ≤ 256) × (next ≤ 256)) ⌝ }
+    ensures { λ r. ⌜ r ≡ braced d (getD (now (buf .entry)) (p .0) 0) (getD (now (buf .entry)) (end .0 - 1) 0) before next ⌝ }
 {
+    let first = p.0;
+    let last = end.0 - 1;
     is_braced(
         d as usize,
-        buf[p] as usize,
-        buf[end - 1] as usize,
+        buf[first] as usize,
+        buf[last] as usize,
         before,
         next,
     )
 }
 
 // Escapes a last `{` of the cells from place p up to `at`.
-pub fn escape_brace(buf: &mut [u8], nums: &mut [u32], p: usize, at: TextAt) -> TextAt
-    requires { ⌜ ((p < at .0) × (at .0 ≤ length (now buf))) × (length (now buf) ≤ length (now nums)) ⌝ }
-    ensures { λ r. ⌜ Becomes (escapeLast (is "{") true) (cells (now (buf .entry)) (now (nums .entry))) p (at .0) (cells (now (buf .exit)) (now (nums .exit))) (r .0) ⌝ }
+pub fn escape_brace(buf: &mut [u8], nums: &mut [u32], p: WorkAt, at: WorkAt) -> WorkAt
+    requires { ⌜ ((p .0 < at .0) × (at .0 ≤ length (now buf))) × (length (now buf) ≤ length (now nums)) ⌝ }
+    ensures { λ r. ⌜ Becomes (escapeLast (is "{") true) (cells (now (buf .entry)) (now (nums .entry))) (p .0) (at .0) (cells (now (buf .exit)) (now (nums .exit))) (r .0) ⌝ }
 {
     let last = at.0 - 1;
     if buf[last] == b'{' {
-        if is_even(&buf[..], p, last) {
-            return insert(buf, nums, last, at, b'\\');
+        if is_even(&buf[..], p, WorkAt(last)) {
+            return insert(buf, nums, WorkAt(last), at, b'\\');
         }
     }
     at
@@ -65,25 +69,26 @@ pub fn escape_brace(buf: &mut [u8], nums: &mut [u32], p: usize, at: TextAt) -> T
 pub fn close_mark(
     buf: &mut [u8],
     nums: &mut [u32],
-    p: usize,
-    at: TextAt,
+    p: WorkAt,
+    at: WorkAt,
     d: u8,
     braces: bool,
-) -> TextAt
-    requires { ⌜ (p ≤ at .0) × (length (now buf) ≤ length (now nums)) ⌝ }
-    ensures { λ r. ⌜ Becomes (behindBrace braces d) (cells (now (buf .entry)) (now (nums .entry))) p (at .0) (cells (now (buf .exit)) (now (nums .exit))) (r .0) ⌝ }
+) -> WorkAt
+    requires { ⌜ (p .0 ≤ at .0) × (length (now buf) ≤ length (now nums)) ⌝ }
+    ensures { λ r. ⌜ Becomes (behindBrace braces d) (cells (now (buf .entry)) (now (nums .entry))) (p .0) (at .0) (cells (now (buf .exit)) (now (nums .exit))) (r .0) ⌝ }
 {
+    let end = buf.len();
     if braces {
         let open = insert(buf, nums, p, at, b'{');
-        let shut = put_sign(buf, nums, open, d);
-        return put_sign(buf, nums, shut, b'}');
+        let shut = put_sign_in(buf, nums, end, open, d);
+        return put_sign_in(buf, nums, end, shut, b'}');
     }
-    put_sign(buf, nums, at, d)
+    put_sign_in(buf, nums, end, at, d)
 }
 
 // Raises the span numbers from a up to e.
 fn raise_spans(spans: &mut [u32], a: usize, e: usize, by: u32)
-    requires { ⌜ ((a ≤ e) × (e ≤ length (now spans))) × ((by ≤ 1) × ((i : ℕ) → a ≤ i → i < e → getD (now spans) i 0 ≤ 16777216)) ⌝ }
+    requires { ⌜ ((a ≤ e) × (e ≤ length (now spans))) × ((by ≤ 1) × Raisable (now spans) a e) ⌝ }
     ensures { λ _. ⌜ take e (now (spans .exit)) ≡ take a (now (spans .entry)) ++ raised by (drop a (take e (now (spans .entry)))) ⌝ }
 {
     let mut i = a;
@@ -93,9 +98,10 @@ fn raise_spans(spans: &mut [u32], a: usize, e: usize, by: u32)
     }
 }
 
-// Lists a mark's span before those inside it, which stand from c + 2 up to e and are raised; nothing where the spans end before e.
+// Lists a mark's span before those inside it, which stand from c + 2 up to e and are raised; nothing where the spans end before e. Its numbers are
+// places in the text, which stands at the front of work memory.
 fn put_span(spans: &mut [u32], c: usize, e: usize, start: usize, end: usize, by: u32)
-    requires { ⌜ ((c + 2 ≤ e) × ((start ≤ 16777216) × (end ≤ 16777216))) × ((by ≤ 1) × (e ≤ length (now spans) → (i : ℕ) → c + 2 ≤ i → i < e → getD (now spans) i 0 ≤ 16777216)) ⌝ }
+    requires { ⌜ ((c + 2 ≤ e) × ((start ≤ outMost) × (end ≤ outMost))) × ((by ≤ 1) × (e ≤ length (now spans) → Raisable (now spans) (c + 2) e)) ⌝ }
     ensures { λ _. ⌜ (e ≤ length (now (spans .entry)) → take e (now (spans .exit)) ≡ take c (now (spans .entry)) ++ (start ∷ end ∷ raised by (drop (c + 2) (take e (now (spans .entry)))))) ⌝ }
 {
     if e <= spans.len() {
@@ -105,35 +111,73 @@ fn put_span(spans: &mut [u32], c: usize, e: usize, start: usize, end: usize, by:
     }
 }
 
+// A mark whose closing delimiter is still to be written: where it starts and where its body ends, where its span is to be listed and where those
+// inside it end.
+pub struct Body {
+    pub start: WorkAt,
+    pub to: WorkAt,
+    pub span: usize,
+    pub listed: usize,
+}
+
 // Where a mark ends, and whether it took the braced form.
 pub struct Closed {
-    pub to: usize,
+    pub to: WorkAt,
     pub braces: bool,
 }
 
-// Finishes a mark that starts at place p: its body ends at `at`, the spans inside it at e. Spans that are lent too short for these are not written.
-pub fn finish_mark(
+// Finishes a mark. Spans that are lent too short for it and for those inside it are not written.
+fn finish(
     buf: &mut [u8],
     nums: &mut [u32],
     spans: &mut [u32],
-    p: usize,
-    at: TextAt,
-    c: usize,
-    e: usize,
+    body: Body,
     d: u8,
     before: usize,
     next: usize,
 ) -> Closed
-    requires { ⌜ (((p + 1 < at .0) × (at .0 ≤ length (now buf))) × ((length (now buf) ≤ length (now nums)) × (length (now buf) ≤ 16777216))) × ((c + 2 ≤ e) × (((before ≤ 256) × (next ≤ 256)) × (e ≤ length (now spans) → (i : ℕ) → c + 2 ≤ i → i < e → getD (now spans) i 0 ≤ 16777216))) ⌝ }
-    ensures { λ r. ⌜ Finished (now (buf .entry)) (now (nums .entry)) p (at .0) (now (spans .entry)) c e d before next (now (buf .exit)) (now (nums .exit)) (r .to) (now (spans .exit)) (r .braces) ⌝ }
+    requires { ⌜ Finishable (now buf) (now nums) (body .start .0) (body .to .0) (now spans) (body .span) (body .listed) before next ⌝ }
+    ensures { λ r. ⌜ Finished (now (buf .entry)) (now (nums .entry)) (body .start .0) (body .to .0) (now (spans .entry)) (body .span) (body .listed) d before next (now (buf .exit)) (now (nums .exit)) (r .to .0) (now (spans .exit)) (r .braces) ⌝ }
 {
-    let braces = takes_braces(&buf[..], p + 1, at.0, d, before, next);
-    let escaped = escape_brace(buf, nums, p + 1, at);
-    let closed = close_mark(buf, nums, p, escaped, d, braces);
-    let to = closed.0;
-    if to <= buf.len() {
-        put_span(spans, c, e, p, to, one_if(braces));
+    let first = WorkAt(body.start.0 + 1);
+    let braces = takes_braces(&buf[..], first, body.to, d, before, next);
+    let escaped = escape_brace(buf, nums, first, body.to);
+    let to = close_mark(buf, nums, body.start, escaped, d, braces);
+    if to.0 <= buf.len() {
+        put_span(
+            spans,
+            body.span,
+            body.listed,
+            body.start.0,
+            to.0,
+            one_if(braces),
+        );
         return Closed { to, braces };
     }
     Closed { to, braces }
+}
+
+// The same in the area before `end`.
+pub fn finish_mark(
+    buf: &mut [u8],
+    nums: &mut [u32],
+    end: usize,
+    spans: &mut [u32],
+    body: Body,
+    d: u8,
+    before: usize,
+    next: usize,
+) -> Closed
+    requires { ⌜ Finishable (take end (now buf)) (take end (now nums)) (body .start .0) (body .to .0) (now spans) (body .span) (body .listed) before next × ((end ≤ length (now buf)) × (end ≤ length (now nums))) ⌝ }
+    ensures { λ r. ⌜ FinishedIn end (now (buf .entry)) (now (nums .entry)) (body .start .0) (body .to .0) (now (spans .entry)) (body .span) (body .listed) d before next (now (buf .exit)) (now (nums .exit)) (r .to .0) (now (spans .exit)) (r .braces) ⌝ }
+{
+    finish(
+        &mut buf[..end],
+        &mut nums[..end],
+        spans,
+        body,
+        d,
+        before,
+        next,
+    )
 }

@@ -22,6 +22,7 @@ use mathlib.Core.List.{List, [], _∷_, _++_}
 use mathlib.Core.Bool.{Bool, true, false, not, _&&_, cond}
 use mathlib.Core.Path.{_≡_}
 use Prim.Native.Nat.{ℕ, zero, suc, _+_, _-_, _*_, _/_, _%_, _≤_, _<_, max}
+use Rattle.text.specs.Bounds.{textMost}
 use Rattle.text.specs.Writes.{Holds}
 use lib.Dec.{eqb, leb, ltb}
 use lib.ListN.{length, take, getD, set}
@@ -262,7 +263,7 @@ abbrev pub slotAt : (src ns : List ℕ) → (k j : ℕ) → Slots
 slotAt src ns k j = slotsAt (held src ns) k j
 
 pub record Held (src ns : List ℕ) (k : ℕ) : Type 0 where
-  pub small : length src ≤ 262144
+  pub small : length src ≤ textMost
   pub room : 4 * length src + 4 ≤ length ns
   pub few : k ≤ length src + 1
   pub bounded : Bounded ns (length src) k

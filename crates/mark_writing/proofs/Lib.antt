@@ -5,3 +5,4 @@ pub mod SlotWriting
 pub mod SlotAsking
 pub mod MarkWriting
 pub mod OneTextLaws
+pub mod Inwards

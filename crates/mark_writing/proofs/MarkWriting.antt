@@ -17,7 +17,7 @@ use Rattle.text.proofs.Writing.{holds-fits, appends-then, part-snoc}
 use Rattle.text.proofs.Clearing.{cells-bytes}
 use Rattle.mark_tags.specs.Marks.{Kind, bold, italic, underline, strike, Items, end, text, gone, mark, Slots, Span, Written, shift, _▹_, content, Next, next, nextByte, State, start, textStep, pieceText, touching, marked, markStep, wrap, wrapText, opening, closing, delimiter, braced, firstOr, lastOr, absent, backslash, escapeLast, write, spanNumbers}
 use Rattle.mark_tags.specs.Flat.{within, beyond, slotAt, kindNumbered, NextIs, behindBrace}
-use Rattle.mark_pieces.specs.Spans.{raised, marksIn, Finished, SlotWritten, markAt, MarkReady, MarkWritten}
+use Rattle.mark_pieces.specs.Spans.{raised, marksIn, Finished, SlotWritten, markAt, MarkReady, MarkWritten, Finishable}
 use Rattle.mark_pieces.proofs.Pieces.{cells-long}
 use Rattle.mark_writing.proofs.Drawing.{appends-end, shift-shift}
 use Rattle.mark_writing.specs.Bodied.{Bodied}
@@ -366,7 +366,7 @@ module _ {src ns : List ℕ} {k mask before d at : ℕ} {out₂ org₂ : List �
 
     -- what finishing it is asked
     pub mark-asks : (nx : ℕ) → nx ≤ 256
-        → (((at + 1 < e) × (e ≤ length out₂)) × ((length out₂ ≤ length org₂) × (length out₂ ≤ 16777216))) × ((c + 2 ≤ c₂) × (((before ≤ 256) × (nx ≤ 256)) × (c₂ ≤ length ss₂ → (j : ℕ) → c + 2 ≤ j → j < c₂ → getD ss₂ j 0 ≤ 16777216)))
+        → Finishable out₂ org₂ at e ss₂ c c₂ before nx
     mark-asks nx h =
         (((mark-more, fit), (m .ready .slot .wide, m .ready .slot .short)), (omega arith, ((m .ready .small, h), λ r j p q. (let w = spans-small r j p q in omega arith))))
 

@@ -9,6 +9,7 @@ use lib.Count.{ones}
 use lib.Dec.{eqb}
 use borrow.Author.Tests.{eqb-false}
 use lib.ListN.{length, getD}
+use Rattle.text.specs.Bounds.{textMost}
 use Rattle.mark_tags.specs.Marks.{mark, Next, nothing, a-byte, a-mark, nextByte, marked}
 use Rattle.mark_tags.specs.Flat.{within, beyond, slotAt, Fresh, kindNumbered, kindsOf, bitOf, Held, Ready, NextIs, nextNumber}
 use Rattle.mark_pieces.specs.Spans.{marksIn, Slot, MarkReady}
@@ -36,7 +37,7 @@ module _ {src ns : List ℕ} {k i mask before : ℕ} {out org : List ℕ} {c : �
   unfolding marksIn
   marks-mark = ap marksIn marking
 
-  pub mark-few : c + 2 ≤ 262144
+  pub mark-few : c + 2 ≤ textMost
   mark-few = let y = marks-mark in let r = m .slot .few in omega arith
 
   fit : Fits mask (getD ns (2 * length src + 2 + i) 0 % 4)

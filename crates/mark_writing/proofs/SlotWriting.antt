@@ -9,6 +9,7 @@ use lib.ListN.{length, take, length-map}
 use Rattle.text.specs.Ascii.{is}
 use Rattle.text.specs.Cells.{Cell, cells}
 use Rattle.text.specs.Writes.{Appends}
+use Rattle.text.specs.Bounds.{textMost}
 use Rattle.mark_tags.specs.Marks.{Kind, Items, end, text, mark, Slots, Written, shift, plain, _▹_, content, Next, next, marked, State, start, Step, backslash, escapeLast, touching, firstOr, textStep, pieceText, markStep, wrap, lastOr, absent, write, spanNumbers}
 use Rattle.mark_tags.specs.Flat.{within, beyond, boundAt, slotAt, Fresh, kindNumbered, kindsOf, Held, Empty}
 use Rattle.mark_pieces.specs.Spans.{marksIn, Writes, Slot, SlotWritten, markAt, MarkWritten}
@@ -57,7 +58,7 @@ pub record Drawing (src ns : List ℕ) (k from mask : ℕ) (v₀ : List Cell) (a
   pub forward : from ≤ i
   pub up-to : i ≤ k
   pub fresh : Fresh (kindsOf mask) (within (slotAt src ns k i))
-  pub few : c + 2 * marksIn (within (slotAt src ns k i)) ≤ 262144
+  pub few : c + 2 * marksIn (within (slotAt src ns k i)) ≤ textMost
   pub around-it : beyond (slotAt src ns k i) ≡ beyond (slotAt src ns k from)
   pub done : Written
   pub st : State

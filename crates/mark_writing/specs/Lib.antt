@@ -1,2 +1,4 @@
 pub mod OneText
 pub mod Bodied
+pub mod Looked
+pub mod Laid

@@ -1,2 +1,3 @@
 // Tags to marks: looking through a slot and writing it.
+pub mod look;
 pub mod slot;

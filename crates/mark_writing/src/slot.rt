@@ -1,138 +1,66 @@
-// Looking through a slot and writing it. A slot is given by the number of its first item.
+// Writing a slot, whose text stands in work memory behind the area that it is written into. A slot is given by the number of its first item.
+use crate::look::Seen;
+use crate::look::is_one_text;
+use crate::look::look;
+use crate::look::next_of;
 use mark_items::items::bit_of;
+use mark_pieces::mark::Body;
 use mark_pieces::mark::delimiter_of;
 use mark_pieces::mark::finish_mark;
-use mark_pieces::piece::is_touching;
 use mark_pieces::piece::write_piece;
 use text::PostAt;
-use text::TextAt;
-use text::write::put_sign;
+use text::WorkAt;
+use text::area::copy_back;
+use text::area::put_sign_in;
+use text::in_work;
 ghost use mathlib.Core.Path.{_≡_};
 ghost use mathlib.Core.Bool.{true, cond};
-ghost use mathlib.Core.List.{List};
 ghost use lib.Dec.{eqb};
-ghost use Rattle.text.specs.Cells.{cells};
-ghost use Prim.Native.Nat.{ℕ, _-_, _≤_, _<_};
-ghost use lib.ListN.{length, getD};
-ghost use Rattle.mark_tags.specs.Marks.{next, marked, touching};
-ghost use Rattle.mark_tags.specs.Flat.{within, slotAt, NextIs, Held, Ready, Answer};
-ghost use Rattle.mark_pieces.specs.Spans.{Slot, SlotWritten, MarkReady, MarkWritten};
-ghost use Rattle.mark_writing.specs.OneText.{SomeText, OneText};
-ghost use Rattle.mark_writing.specs.Bodied.{Bodied};
+ghost use Prim.Native.Nat.{_+_, _*_, _%_, _≤_, _<_};
+ghost use lib.ListN.{getD};
+ghost use Rattle.mark_tags.specs.Marks.{next};
+ghost use Rattle.mark_tags.specs.Flat.{within, slotAt, NextIs};
+ghost use Rattle.mark_writing.specs.Looked.{Looked};
+ghost use Rattle.mark_writing.specs.OneText.{OneText};
+ghost use Rattle.mark_writing.specs.Laid.{source, table, TableIn, HeldIn, ReadyIn, SlotAsked, SlotDone, TextAsked, TextDone, MarkAsked, MarkDone, BodyAsked, BodyDone};
 
-// Whether item i is a text that is not empty.
-fn is_text(text: &[u8], nums: &[u32], k: usize, i: usize) -> bool
-    requires { ⌜ Held (now text) (now nums) k × (i < k) ⌝ }
-    ensures { λ r. ⌜ (r ≡ true → SomeText (now (text .entry)) (now (nums .entry)) i) ⌝ }
-{
-    let n = text.len();
-    (nums[2 * n + 2 + i] == 0) & (nums[n + i] < nums[n + (i + 1)])
+// A text in work memory and the area that its marks are written into: `size` cells from `base` on, `items` items in the numbers behind them, and
+// the area before `end`.
+pub struct Layout {
+    pub base: WorkAt,
+    pub size: usize,
+    pub items: usize,
+    pub end: usize,
 }
 
-// Whether a slot holds text, at some depth: 0 if so, else 1 + the item behind the slot.
-pub fn content(text: &[u8], nums: &[u32], k: usize, from: usize, depth: usize) -> usize
-    requires { ⌜ Ready (now text) (now nums) k from depth ⌝ }
-    ensures { λ r. ⌜ Answer (now (text .entry)) (now (nums .entry)) k from r ⌝ }
-{
-    let n = text.len();
-    let mut i = from;
-    while i < k {
-        let code = nums[2 * n + 2 + i];
-        if code == 2 {
-            return i + 2;
-        }
-        if code == 0 {
-            if nums[n + i] < nums[n + (i + 1)] {
-                return 0;
-            }
-            i += 1;
-        } else if code < 4 {
-            i += 1;
-        } else {
-            let j = content(text, nums, k, i + 1, depth - 1);
-            if j == 0 {
-                return 0;
-            }
-            i = j - 1;
-        }
-    }
-    i + 1
-}
-
-// The same, at once where the slot begins with a text that is not empty.
-fn content_of(text: &[u8], nums: &[u32], k: usize, from: usize, depth: usize) -> usize
-    requires { ⌜ Ready (now text) (now nums) k from depth ⌝ }
-    ensures { λ r. ⌜ Answer (now (text .entry)) (now (nums .entry)) k from r ⌝ }
-{
-    if from < k {
-        if is_text(text, nums, k, from) {
-            return 0;
-        }
-    }
-    content(text, nums, k, from, depth)
-}
-
-// What is written next in a slot: a byte, 256 for nothing, 257 for a mark with content.
-pub fn next_of(text: &[u8], nums: &[u32], k: usize, from: usize, depth: usize) -> usize
-    requires { ⌜ Ready (now text) (now nums) k from depth ⌝ }
-    ensures { λ r. ⌜ NextIs (next (within (slotAt (now (text .entry)) (now (nums .entry)) k from))) r ⌝ }
-{
-    let n = text.len();
-    let mut i = from;
-    while i < k {
-        let code = nums[2 * n + 2 + i];
-        if code == 2 {
-            return 256;
-        }
-        if code == 0 {
-            let a = nums[n + i] as usize;
-            if a < nums[n + (i + 1)] as usize {
-                return text[a] as usize;
-            }
-            i += 1;
-        } else if code < 4 {
-            i += 1;
-        } else {
-            let j = content(text, nums, k, i + 1, depth - 1);
-            if j == 0 {
-                return 257;
-            }
-            i = j - 1;
-        }
-    }
-    256
-}
-
-// Whether a mark is written next behind a text piece that ends at e, as far as its last byte has to do with that: if not, nothing is looked for.
-fn touches_mark(text: &[u8], nums: &[u32], k: usize, from: usize, depth: usize, e: usize) -> bool
-    requires { ⌜ Ready (now text) (now nums) k from depth × ((0 < e) × (e ≤ length (now text))) ⌝ }
-    ensures { λ r. ⌜ touching r (getD (now (text .entry)) (e - 1) 0) ≡ touching (marked (next (within (slotAt (now (text .entry)) (now (nums .entry)) k from)))) (getD (now (text .entry)) (e - 1) 0) ⌝ }
-{
-    if is_touching(true, text[e - 1]) {
-        let next = next_of(text, nums, k, from, depth);
-        return next == 257;
-    }
-    false
-}
-
-// Where writing a slot ended: the item behind it, the place in the text, how many span numbers are listed.
+// Where writing a slot ended: the item behind it, the place in the area, how many span numbers are listed.
 pub struct Went {
     pub item: usize,
-    pub to: usize,
+    pub to: WorkAt,
     pub count: usize,
 }
 
-// The same for a mark, with what it leaves for the next item: the last byte written, and whether a `}` is to be escaped.
+// A mark that is begun, in a slot where the kinds of a mask are open: the byte before it, its delimiter, where it starts, how many span numbers are
+// listed before it.
+pub struct Begun {
+    pub mask: u32,
+    pub before: usize,
+    pub d: u8,
+    pub start: WorkAt,
+    pub count: usize,
+}
+
+// Where writing a mark ended, and what it leaves for the next item: the last byte written, and whether a `}` is to be escaped.
 pub struct Drawn {
     pub item: usize,
-    pub to: usize,
+    pub to: WorkAt,
     pub count: usize,
     pub before: usize,
     pub guarded: bool,
 }
 
 // The byte that is written next: `{` for a mark, 256 for nothing.
-fn next_byte(next: usize) -> usize
+pub fn next_byte(next: usize) -> usize
     ensures { λ r. ⌜ r ≡ cond (eqb next 257) 123 next ⌝ }
 {
     if next == 257 {
@@ -142,7 +70,7 @@ fn next_byte(next: usize) -> usize
 }
 
 // The last byte of a mark.
-fn last_of(braces: bool, d: u8) -> usize
+pub fn last_of(braces: bool, d: u8) -> usize
     ensures { λ r. ⌜ r ≡ cond braces 125 d ⌝ }
 {
     if braces {
@@ -151,244 +79,220 @@ fn last_of(braces: bool, d: u8) -> usize
     d as usize
 }
 
-// Whether the slot that starts at item `from` is one text that is not empty, and ends.
-fn is_one_text(text: &[u8], nums: &[u32], k: usize, from: usize) -> bool
-    requires { ⌜ Held (now text) (now nums) k × (from ≤ k) ⌝ }
-    ensures { λ r. ⌜ (r ≡ true → OneText (now (text .entry)) (now (nums .entry)) k from) ⌝ }
+// Looks at item i.
+fn seen_at(work: &[u8], numbers: &[u32], w: Layout, i: usize, depth: usize) -> Seen
+    requires { ⌜ ReadyIn w (now work) (now numbers) i depth × (i < w .items) ⌝ }
+    ensures { λ r. ⌜ Looked (source w (now (work .entry))) (table w (now (numbers .entry))) (w .items) i (r .what) (r .a .0) (r .e .0) (r .touches) (r .last) (r .item) ⌝ }
 {
-    let n = text.len();
-    if k <= from + 1 {
-        return false;
-    }
-    is_text(text, nums, k, from) & (nums[2 * n + 2 + (from + 1)] == 2)
+    let base = w.base.0;
+    let past = base + w.size;
+    look(&work[base..past], &numbers[base..], w.items, i, depth)
+}
+
+// What is written next from item `from` on.
+fn next_at(work: &[u8], numbers: &[u32], w: Layout, from: usize, depth: usize) -> usize
+    requires { ⌜ ReadyIn w (now work) (now numbers) from depth ⌝ }
+    ensures { λ r. ⌜ NextIs (next (within (slotAt (source w (now (work .entry))) (table w (now (numbers .entry))) (w .items) from))) r ⌝ }
+{
+    let base = w.base.0;
+    let past = base + w.size;
+    next_of(&work[base..past], &numbers[base..], w.items, from, depth)
+}
+
+// Whether the slot that starts at item `from` is one text that is not empty, and ends.
+fn is_text_at(work: &[u8], numbers: &[u32], w: Layout, from: usize) -> bool
+    requires { ⌜ HeldIn w (now work) (now numbers) × (from ≤ w .items) ⌝ }
+    ensures { λ r. ⌜ (r ≡ true → OneText (source w (now (work .entry))) (table w (now (numbers .entry))) (w .items) from) ⌝ }
+{
+    let base = w.base.0;
+    let past = base + w.size;
+    is_one_text(&work[base..past], &numbers[base..], w.items, from)
+}
+
+// The kind of the mark that starts at item i.
+fn kind_at(numbers: &[u32], w: Layout, i: usize) -> u32
+    requires { ⌜ TableIn w (now numbers) × (i < w .items) ⌝ }
+    ensures { λ r. ⌜ r ≡ getD (table w (now (numbers .entry))) (2 * w .size + 2 + i) 0 % 4 ⌝ }
+{
+    let n = w.size;
+    let base = w.base.0;
+    numbers[base + (2 * n + 2 + i)] % 4
+}
+
+// Where item j starts.
+fn bound_at(numbers: &[u32], w: Layout, j: usize) -> PostAt
+    requires { ⌜ TableIn w (now numbers) × (j ≤ w .items) ⌝ }
+    ensures { λ r. ⌜ r .0 ≡ getD (table w (now (numbers .entry))) (w .size + j) 0 ⌝ }
+{
+    let n = w.size;
+    let base = w.base.0;
+    PostAt(numbers[base + (n + j)] as usize)
 }
 
 // Writes a slot that is one text: at once, since nothing is guarded before it or written behind it.
 fn write_text(
-    text: &[u8],
-    nums: &[u32],
-    k: usize,
+    work: &mut [u8],
+    numbers: &mut [u32],
+    w: Layout,
     from: usize,
-    out: &mut [u8],
-    origins: &mut [u32],
-    at: TextAt,
+    at: WorkAt,
     count: usize,
 ) -> Went
-    requires { ⌜ Held (now text) (now nums) k × OneText (now text) (now nums) k from ⌝ }
-    ensures { λ r. ⌜ ((spans : List ℕ) → SlotWritten (now (text .entry)) (now (nums .entry)) k from (cells (now (out .entry)) (now (origins .entry))) (at .0) spans count (cells (now (out .exit)) (now (origins .exit))) (r .to) spans (r .count) (r .item)) ⌝ }
+    requires { ⌜ TextAsked w (now work) (now numbers) from ⌝ }
+    ensures { λ r. ⌜ TextDone w (now (work .entry)) (now (numbers .entry)) from (at .0) count (now (work .exit)) (now (numbers .exit)) r ⌝ }
 {
-    let n = text.len();
-    let a = nums[n + from] as usize;
-    let e = nums[n + (from + 1)] as usize;
-    let behind = text::write::copy(text, nums, PostAt(a), PostAt(e), out, origins, at);
+    let a = in_work(w.base, bound_at(&numbers[..], w, from));
+    let e = in_work(w.base, bound_at(&numbers[..], w, from + 1));
+    let to = copy_back(work, numbers, a, e, w.end, at);
     Went {
         item: from + 2,
-        to: behind.0,
+        to,
         count,
     }
 }
 
-// Ends a mark whose opening delimiter d stands at place p, with its body written behind it.
+// Ends a mark whose body is written.
 fn end_mark(
-    text: &[u8],
-    nums: &[u32],
-    k: usize,
-    mask: u32,
-    before: usize,
-    d: u8,
-    p: usize,
-    out: &mut [u8],
-    origins: &mut [u32],
+    work: &mut [u8],
+    numbers: &mut [u32],
+    w: Layout,
+    mark: Begun,
     spans: &mut [u32],
-    count: usize,
     body: Went,
 ) -> Drawn
-    requires { ⌜ Bodied (now text) (now nums) k mask before d p (now out) (now origins) (body .to) (now spans) count (body .count) (body .item) ⌝ }
-    ensures { λ r. ⌜ ((b : Bodied (now (text .entry)) (now (nums .entry)) k mask before d p (now (out .entry)) (now (origins .entry)) (body .to) (now (spans .entry)) count (body .count) (body .item)) → MarkWritten (now (text .entry)) (now (nums .entry)) k (b .i) before (b .v) p (b .spans) count (cells (now (out .exit)) (now (origins .exit))) (r .to) (now (spans .exit)) (r .count) (r .item) (r .before) (r .guarded)) ⌝ }
+    requires { ⌜ BodyAsked w mark body (now work) (now numbers) (now spans) ⌝ }
+    ensures { λ r. ⌜ BodyDone w mark body (now (work .entry)) (now (numbers .entry)) (now (spans .entry)) (now (work .exit)) (now (numbers .exit)) (now (spans .exit)) r ⌝ }
 {
     let item = body.item;
-    let end = body.to;
+    let to = body.to;
     let listed = body.count;
-    if out.len() < end {
+    if w.end < to.0 {
         return Drawn {
             item,
-            to: end,
+            to,
             count: listed,
             before: 256,
             guarded: false,
         };
     }
-    let next = next_of(text, nums, k, item, 4 - u32::count_ones(mask) as usize);
-    let closed = finish_mark(
-        out,
-        origins,
-        spans,
-        p,
-        TextAt(end),
-        count,
+    let depth = 4 - u32::count_ones(mark.mask) as usize;
+    let next = next_at(&work[..], &numbers[..], w, item, depth);
+    let start = mark.start;
+    let whole = Body {
+        start,
+        to,
+        span: mark.count,
         listed,
-        d,
-        before,
+    };
+    let closed = finish_mark(
+        work,
+        numbers,
+        w.end,
+        spans,
+        whole,
+        mark.d,
+        mark.before,
         next_byte(next),
     );
     let braces = closed.braces;
+    let past = closed.to;
     Drawn {
         item,
-        to: closed.to,
+        to: past,
         count: listed,
-        before: last_of(braces, d),
-        guarded: !braces & (before == 123),
+        before: last_of(braces, mark.d),
+        guarded: !braces & (mark.before == 123),
     }
 }
 
 // Writes the mark that starts at item i, in a slot where the kinds of a mask are open.
 pub fn write_mark(
-    text: &[u8],
-    nums: &[u32],
-    k: usize,
+    work: &mut [u8],
+    numbers: &mut [u32],
+    w: Layout,
     i: usize,
     mask: u32,
     before: usize,
-    out: &mut [u8],
-    origins: &mut [u32],
-    at: TextAt,
+    at: WorkAt,
     spans: &mut [u32],
     count: usize,
 ) -> Drawn
-    requires { ⌜ MarkReady (now text) (now nums) k i mask before (now out) (now origins) count ⌝ }
-    ensures { λ r. ⌜ MarkWritten (now (text .entry)) (now (nums .entry)) k i before (cells (now (out .entry)) (now (origins .entry))) (at .0) (now (spans .entry)) count (cells (now (out .exit)) (now (origins .exit))) (r .to) (now (spans .exit)) (r .count) (r .item) (r .before) (r .guarded) ⌝ }
+    requires { ⌜ MarkAsked w (now work) (now numbers) i mask before count ⌝ }
+    ensures { λ r. ⌜ MarkDone w (now (work .entry)) (now (numbers .entry)) i before (at .0) (now (spans .entry)) count (now (work .exit)) (now (numbers .exit)) (now (spans .exit)) r ⌝ }
 {
-    let n = text.len();
-    let kind = nums[2 * n + 2 + i] % 4;
+    let kind = kind_at(&numbers[..], w, i);
     let d = delimiter_of(kind);
-    let p = at.0;
-    let start = put_sign(out, origins, at, d);
-    if is_one_text(text, nums, k, i + 1) {
-        let body = write_text(text, nums, k, i + 1, out, origins, start, count + 2);
-        return end_mark(
-            text,
-            nums,
-            k,
-            mask,
-            before,
-            d,
-            p,
-            out,
-            origins,
-            spans,
-            count,
-            body,
-        );
+    let start = put_sign_in(work, numbers, w.end, at, d);
+    let mark = Begun {
+        mask,
+        before,
+        d,
+        start: at,
+        count,
+    };
+    if is_text_at(&work[..], &numbers[..], w, i + 1) {
+        let body = write_text(work, numbers, w, i + 1, start, count + 2);
+        return end_mark(work, numbers, w, mark, spans, body);
     }
     let body = write_slot(
-        text,
-        nums,
-        k,
+        work,
+        numbers,
+        w,
         i + 1,
         mask | bit_of(kind),
-        out,
-        origins,
         start,
         spans,
         count + 2,
     );
-    end_mark(
-        text,
-        nums,
-        k,
-        mask,
-        before,
-        d,
-        p,
-        out,
-        origins,
-        spans,
-        count,
-        body,
-    )
+    end_mark(work, numbers, w, mark, spans, body)
 }
 
 // Writes the slot that starts at item `from`, where the kinds of a mask are open.
 pub fn write_slot(
-    text: &[u8],
-    nums: &[u32],
-    k: usize,
+    work: &mut [u8],
+    numbers: &mut [u32],
+    w: Layout,
     from: usize,
     mask: u32,
-    out: &mut [u8],
-    origins: &mut [u32],
-    at: TextAt,
+    at: WorkAt,
     spans: &mut [u32],
     count: usize,
 ) -> Went
-    requires { ⌜ Slot (now text) (now nums) k from mask (now out) (now origins) count ⌝ }
-    ensures { λ r. ⌜ SlotWritten (now (text .entry)) (now (nums .entry)) k from (cells (now (out .entry)) (now (origins .entry))) (at .0) (now (spans .entry)) count (cells (now (out .exit)) (now (origins .exit))) (r .to) (now (spans .exit)) (r .count) (r .item) ⌝ }
+    requires { ⌜ SlotAsked w (now work) (now numbers) from mask count ⌝ }
+    ensures { λ r. ⌜ SlotDone w (now (work .entry)) (now (numbers .entry)) from (at .0) (now (spans .entry)) count (now (work .exit)) (now (numbers .exit)) (now (spans .exit)) r ⌝ }
 {
-    let n = text.len();
     let depth = 4 - u32::count_ones(mask) as usize;
+    let k = w.items;
     let mut i = from;
-    let mut to = at.0;
+    let mut to = at;
     let mut c = count;
     let mut before: usize = 256;
     let mut guarded = false;
     while i < k {
-        let code = nums[2 * n + 2 + i];
-        if code == 2 {
+        let item = seen_at(&work[..], &numbers[..], w, i, depth);
+        if item.what == 0 {
             return Went {
                 item: i + 1,
                 to,
                 count: c,
             };
         }
-        if code == 0 {
-            let a = nums[n + i] as usize;
-            let e = nums[n + (i + 1)] as usize;
-            if a < e {
-                let touches = touches_mark(text, nums, k, i + 1, depth, e);
-                let behind = write_piece(
-                    text,
-                    nums,
-                    PostAt(a),
-                    PostAt(e),
-                    guarded,
-                    touches,
-                    out,
-                    origins,
-                    TextAt(to),
-                );
-                to = behind.0;
-                before = text[e - 1] as usize;
-                guarded = false;
-                i += 1;
-            } else {
-                i += 1;
-            }
-        } else if code < 4 {
+        if item.what == 1 {
+            let a = in_work(w.base, item.a);
+            let e = in_work(w.base, item.e);
+            to = write_piece(work, numbers, a, e, guarded, item.touches, w.end, to);
+            before = item.last;
+            guarded = false;
             i += 1;
+        } else if item.what == 2 {
+            i = item.item;
         } else {
-            let j = content_of(text, nums, k, i + 1, depth - 1);
-            if j == 0 {
-                let mark = write_mark(
-                    text,
-                    nums,
-                    k,
-                    i,
-                    mask,
-                    before,
-                    out,
-                    origins,
-                    TextAt(to),
-                    spans,
-                    c,
-                );
-                i = mark.item;
-                to = mark.to;
-                c = mark.count;
-                before = mark.before;
-                guarded = mark.guarded;
-            } else {
-                i = j - 1;
-            }
+            let mark = write_mark(work, numbers, w, i, mask, before, to, spans, c);
+            i = mark.item;
+            to = mark.to;
+            c = mark.count;
+            before = mark.before;
+            guarded = mark.guarded;
         }
     }
     Went {

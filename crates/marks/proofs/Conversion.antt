@@ -1,16 +1,17 @@
 -- Laws of a whole call. Assumes nothing.
 use mathlib.Core.Path.{_≡_, refl, sym, ap, ap₂, _∙_, subst}
 use mathlib.Core.Bool.{Bool, true, false, cond, _&&_}
-use mathlib.Core.List.{List, [], map}
-use Prim.Native.Nat.{ℕ, _+_, _*_, _/_, _≤_, _<_}
+use mathlib.Core.List.{List, []}
+use Prim.Native.Nat.{ℕ, _*_, _/_, _≤_, _<_}
 use native.Mathlib.Omega.{arith}
 use native.Mathlib.Decide.{decLe}
 use lib.ListN.{length, take}
-use lib.Seq.{length-take-le}
+use lib.Seq.{take-take, length-take-le}
 use lib.Dec.{leb}
 use borrow.Author.Tests.{lt-ltb, le-ltb, leb-true}
-use Rattle.text.specs.Cells.{Cell, cells, cellsOf}
-use Rattle.lending.specs.Lent.{textMost, outMost, sizesRight, checked}
+use Rattle.text.specs.Bounds.{textMost, outMost, workSize, numbersSize}
+use Rattle.text.specs.Cells.{Cell, cells, cellsOf, part}
+use Rattle.lending.specs.Lent.{sizesRight, checked}
 use Rattle.text.specs.Writes.{cleared, padded, LaidOut}
 use Rattle.lending.specs.declared.lent.Refusal.{Refusal}
 use Rattle.lending.specs.declared.lent.Refusal.the-variants.{TextTooLong, SizesWrong, NoSpace}
@@ -18,10 +19,9 @@ use Rattle.lending.specs.declared.lent.Spans.the-variants.{Of}
 use Rattle.lending.specs.declared.lent.Checked.{Checked}
 use Rattle.lending.specs.declared.lent.Checked.the-variants as C
 use Rattle.text.proofs.Writing.{holds-fits}
-use Rattle.text.proofs.Clearing.{cells-bytes, cells-origins, laid-cleared, length-mapped}
+use Rattle.text.proofs.Clearing.{laid-cleared}
 use Rattle.text.proofs.Copying.{length-cellsOf}
 use Rattle.mark_tags.specs.Marks.{plain, start, marks, merge, no-kinds, items, spanNumbers}
-use Rattle.mark_pieces.proofs.Pieces.{cells-long}
 use Rattle.mark_pieces.specs.Spans.{Writes}
 use Rattle.mark_writing.proofs.Drawing.{shift-zero}
 use Rattle.mark_writing.proofs.MarkWriting.{spans-few}
@@ -33,33 +33,25 @@ use Rattle.marks.proofs.Passing.{pass-held}
 
 -- ---- what is left
 
--- cells that are laid out where they stand
-pub laid-there : (bs ns bs' ns' ns₁ : List ℕ) (n : ℕ) → n ≤ length bs → n ≤ length ns → length ns₁ ≡ length ns → take n ns₁ ≡ map (λ x. x / 2) (take n ns) → bs' ≡ cleared n bs → ns' ≡ cleared n ns₁
-    → LaidOut (take n (cells bs ns)) (length bs) (length ns) bs' ns'
-laid-there bs ns bs' ns' ns₁ n h k l e f g = record {
-  text = f ∙ laid-cleared (take n bs) bs n (length bs) refl (length-take-le n bs h) refl ∙ ap (padded (length bs)) (sym (cells-bytes n bs ns h k));
-  from = g ∙ laid-cleared (map (λ x. x / 2) (take n ns)) ns₁ n (length ns) l (length-mapped (λ x. x / 2) ns n k) e ∙ ap (padded (length ns)) (sym (cells-origins n bs ns h k));
-}
-
 pub front-left : (xs xs' : List ℕ) (n : ℕ) → n ≤ length xs → xs' ≡ cleared n xs → xs' ≡ padded (length xs) (take n xs)
 front-left xs xs' n h e = e ∙ laid-cleared (take n xs) xs n (length xs) refl (length-take-le n xs h) refl
 
 -- ---- the pass
 
-module _ (text : List ℕ) (v : List Cell) (ss out origins : List ℕ) (to : ℕ) (ss₁ : List ℕ) (c : ℕ)
-    (w : Writes v 0 ss 0 (cells out origins) to ss₁ c (marks (cellsOf text))) (wide : length out ≤ length origins) where
+pub of-text : {v v' x y : List Cell} {ss ss' : List ℕ} {to c : ℕ} → x ≡ y → Writes v 0 ss 0 v' to ss' c (marks x) → Writes v 0 ss 0 v' to ss' c (marks y)
+of-text {v} {v'} {x} {y} {ss} {ss'} {to} {c} e w = subst (λ (z : List Cell). Writes v 0 ss 0 v' to ss' c (marks z)) e w
+
+-- v': the cells of the area, of the output's length
+module _ (text : List ℕ) (v : List Cell) (ss : List ℕ) (v' : List Cell) (to : ℕ) (ss₁ : List ℕ) (c m : ℕ) (w : Writes v 0 ss 0 v' to ss₁ c (marks (cellsOf text))) (long : length v' ≡ m) where
   abbrev size : ℕ
   size = length (marks (cellsOf text) .cells)
 
-  long : length (cells out origins) ≡ length out
-  long = cells-long out origins wide
-
-  pub converted-full : (k s : ℕ) (l : Marked) {out' origins' spans' : List ℕ} → length out < to → l ≡ Refused NoSpace → Left (plain []) (length out) k s out' origins' spans' → Converted text (length out) k s l out' origins' spans'
+  pub converted-full : (k s : ℕ) (l : Marked) {out' origins' spans' : List ℕ} → m < to → l ≡ Refused NoSpace → Left (plain []) m k s out' origins' spans' → Converted text m k s l out' origins' spans'
   unfolding converted
   converted-full k s l h g left =
       let n = long in
-      let over : length out < size = elim (decLe size (length out)) [ yes p ↦ absurd (let z = pass-held w .end (omega arith) in omega arith) | no p ↦ omega arith ] in
-      rw g (record { answer = rw (lt-ltb (length out) size over); left = left })
+      let over : m < size = elim (decLe size m) [ yes p ↦ absurd (let z = pass-held w .end (omega arith) in omega arith) | no p ↦ omega arith ] in
+      rw g (record { answer = rw (lt-ltb m size over); left = left })
 
   -- two numbers for each three bytes suffice for the spans
   pub spans-fit : c ≤ 2 * (length text / 3)
@@ -71,20 +63,25 @@ module _ (text : List ℕ) (v : List Cell) (ss out origins : List ℕ) (to : ℕ
       let l = length-cellsOf text in
       omega arith
 
-  pub converted-done : (k : ℕ) {out' origins' spans' : List ℕ} → to ≤ length out → c ≤ length ss₁ → LaidOut (take to (cells out origins)) (length out) k out' origins' → spans' ≡ padded (length ss₁) (take c ss₁)
-      → Converted text (length out) k (length ss₁) (Done to (c / 2)) out' origins' spans'
+  pub converted-done : (k : ℕ) {out' origins' spans' : List ℕ} → to ≤ m → c ≤ length ss₁ → LaidOut (take to v') m k out' origins' → spans' ≡ padded (length ss₁) (take c ss₁)
+      → Converted text m k (length ss₁) (Done to (c / 2)) out' origins' spans'
   unfolding converted
   converted-done k {out'} {origins'} {spans'} h r laid listed =
       let n = long in
-      let fits = holds-fits (cells out origins) to (marks (cellsOf text) .cells) (pass-held w) (omega arith) in
+      let fits = holds-fits v' to (marks (cellsOf text) .cells) (pass-held w) (omega arith) in
       let e : to ≡ size = pass-held w .end fits in
       let d = w .count in
       let e₂ : c / 2 ≡ length (marks (cellsOf text) .spans) = omega arith in
       let there : take c ss₁ ≡ spanNumbers (marks (cellsOf text) .spans) = w .spans (omega arith) r ∙ ap spanNumbers (shift-zero (marks (cellsOf text) .spans)) in
       record {
-        answer = rw (le-ltb (length out) size (omega arith)) (ap₂ Done e e₂);
-        left = record { laid = subst (λ (x : List Cell). LaidOut x (length out) k out' origins') (pass-held w .text fits) laid; listed = listed ∙ ap (padded (length ss₁)) there };
+        answer = rw (le-ltb m size (omega arith)) (ap₂ Done e e₂);
+        left = record { laid = subst (λ (x : List Cell). LaidOut x m k out' origins') (pass-held w .text fits) laid; listed = listed ∙ ap (padded (length ss₁)) there };
       }
+
+-- the first cells of the area, which are laid out
+pub area-laid : {to m k : ℕ} {out' plain' : List ℕ} (bs ns : List ℕ) (a : ℕ) → to ≤ a → LaidOut (part 0 to (cells bs ns)) m k out' plain' → LaidOut (take to (take a (cells bs ns))) m k out' plain'
+unfolding part
+area-laid {to} bs ns a h l = rw (take-take to a (cells bs ns) h) l
 
 -- ---- the whole call
 
@@ -101,7 +98,7 @@ pub spans-enough : (text : List ℕ) (m k s w n : ℕ) → checked text (record 
 unfolding checked sizesRight
 spans-enough text m k s w n h =
     let z : sizesRight (length text) (record { out = m; origins = k; work = w; numbers = n; spans = Of s }) ≡ true = sizes-by (leb (length text) textMost) (sizesRight (length text) (record { out = m; origins = k; work = w; numbers = n; spans = Of s })) _ h in
-    leb-true (2 * (length text / 3)) s (last-true (leb m outMost && leb m k && leb (length text + 3 * m) w && leb (8 * length text + 3 * m + 64) n) (leb (2 * (length text / 3)) s) z)
+    leb-true (2 * (length text / 3)) s (last-true (leb m outMost && leb m k && leb (workSize (length text) m) w && leb (numbersSize (length text) m) n) (leb (2 * (length text / 3)) s) z)
 
 module _ (text : List ℕ) (m k s w n : ℕ) (c : Checked) (l : Marked) {out origins spans : List ℕ}
     (d : c ≡ checked text (record { out = m; origins = k; work = w; numbers = n; spans = Of s })) where

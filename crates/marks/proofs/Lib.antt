@@ -3,3 +3,4 @@ pub mod Flattening
 pub mod Passing
 pub mod NoTags
 pub mod Conversion
+pub mod Inwards

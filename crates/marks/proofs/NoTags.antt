@@ -1,18 +1,15 @@
 -- A text without `[`: the pass leaves it as it is. Assumes nothing.
 use mathlib.Core.Path.{_≡_, refl, sym, ap, subst, _∙_}
 use mathlib.Core.Bool.{Bool, true, false, cond}
-use mathlib.Core.List.{List, [], _∷_, _++_, append-nil}
-use Prim.Native.Nat.{ℕ, zero, suc, _+_, _≤_}
+use mathlib.Core.List.{List, [], _∷_, append-nil}
+use Prim.Native.Nat.{ℕ, suc, _+_, _≤_}
 use native.Mathlib.Omega.{arith}
 use lib.Dec.{eqb, leb}
-use lib.ListN.{length, take}
+use lib.ListN.{length}
 use borrow.Author.Tests.{leb-true}
 use Rattle.text.specs.Ascii.{toFirst}
-use Rattle.text.specs.Cells.{Cell, cell, cells, bytes, cellsOf}
-use Rattle.text.specs.Writes.{Holds}
-use Rattle.text.proofs.Writing.{cells-le}
-use Rattle.text.proofs.Copying.{bytes-cellsOf, length-cellsOf}
-use Rattle.mark_tags.specs.Marks.{Tokens, last, onto, tagOfBytes, tagAt, scan, parse, whole, items, merge, next, touching, escapeLast, pieceText, textStep, write, marks}
+use Rattle.text.specs.Cells.{Cell, bytes}
+use Rattle.mark_tags.specs.Marks.{last, onto, tagOfBytes, tagAt, scan, parse, whole, items, merge, next, touching, escapeLast, pieceText, textStep, write, marks}
 use Rattle.marks.specs.Untagged.{Untagged}
 
 -- ---- reading it
@@ -47,22 +44,3 @@ pub untagged : (s : List ℕ) (i : ℕ) → i ≡ 0 + toFirst (λ b. eqb b 91) s
 untagged s i e h x g =
     let l = leb-true (length s) i h in
     marks-last x (scan-untagged x (subst (λ (t : List ℕ). length t ≤ toFirst (λ b. eqb b 91) t) (sym g) (omega (arith, e, l))))
-
--- ---- its cells
-
-cells-front : (n : ℕ) (bs ns : List ℕ) → take n (cells bs ns) ≡ cells (take n bs) ns
-unfolding cells
-cells-front zero bs ns = refl
-cells-front (suc n) [] ns = refl
-cells-front (suc n) (b ∷ bs) [] = refl
-cells-front (suc n) (b ∷ bs) (x ∷ ns) = ap (λ (l : List Cell). cell b x ∷ l) (cells-front n bs ns)
-
-pub cells-there : (s bs ns : List ℕ) → take (length s) bs ≡ s → cells s ns ≡ cellsOf s → take (length s) (cells bs ns) ≡ cellsOf s
-cells-there s bs ns e f = cells-front (length s) bs ns ∙ ap (λ (l : List ℕ). cells l ns) e ∙ f
-
-pub untagged-held : (s bs ns : List ℕ) → Untagged s → length s ≤ length bs → length s ≤ length ns → take (length s) (cells bs ns) ≡ cellsOf s
-    → Holds (cells bs ns) (length s) (marks (cellsOf s) .cells)
-untagged-held s bs ns u hb hn e =
-    let l = length-cellsOf s in
-    let room = cells-le bs ns (length s) hb hn in
-    rw (u (cellsOf s) (bytes-cellsOf s)) (record { end = λ h. sym l; text = λ h. e; full = λ h. absurd (omega (arith, h, l, room)) })

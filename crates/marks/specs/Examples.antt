@@ -18,7 +18,7 @@ use Rattle.marks.specs.declared.Marked.the-variants.{Done, Refused}
 use Rattle.marks.specs.Calls.{converted, answered}
 
 abbrev Answers : String → (m k : ℕ) → Marked → Type 0
-Answers s m k r = answered (ascii s) (record { out = m; origins = 64; work = 256; numbers = 512; spans = Of k }) ≡ r
+Answers s m k r = answered (ascii s) (record { out = m; origins = 32; work = 256; numbers = 512; spans = Of k }) ≡ r
 
 -- `a{*b*}` has 6 bytes and one span
 calls : Answers "a[b]b[/b]" 6 6 (Done 6 1) × Answers "a[b]b[/b]" 5 6 (Refused NoSpace) × Answers "a[b]b[/b]" 6 5 (Refused SizesWrong)

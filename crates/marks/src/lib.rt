@@ -1,20 +1,25 @@
 // Tags to marks (document 01, "Tags to marks" and "Writing").
-use leave::leave;
 use lending::lent::Checked;
 use lending::lent::Lent;
 use lending::lent::Refusal;
 use lending::lent::Spans;
 use lending::lent::check;
 use pass::write_marks;
-ghost use Prim.Native.Nat.{_+_, _*_, _/_, _≤_};
+use text::TextAt;
+use text::WorkAt;
+use text::source::set_cells;
+use text::write::lay_nothing;
+use text::write::lay_part;
+use text::zero::zero32;
+ghost use Prim.Native.Nat.{_*_, _/_, _≤_};
 ghost use mathlib.Core.Path.{_≡_};
 ghost use lib.ListN.{length};
+ghost use Rattle.text.specs.Bounds.{Room};
 ghost use Rattle.mark_tags.specs.Marks.{plain};
 ghost use mathlib.Core.List.{[]};
 ghost use Rattle.marks.specs.Calls.{Left, Converted, Called};
 ghost use Rattle.marks.specs.declared.Marked.the-variants.{Refused};
 
-pub mod leave;
 pub mod pass;
 pub mod untagged;
 
@@ -28,27 +33,34 @@ pub enum Marked {
 fn refuse(r: Refusal, out: &mut [u8], origins: &mut [u32], spans: &mut [u32]) -> Marked
     ensures { λ l. ⌜ (l ≡ Refused r) × Left (plain []) (length (now (out .entry))) (length (now (origins .entry))) (length (now (spans .entry))) (now (out .exit)) (now (origins .exit)) (now (spans .exit)) ⌝ }
 {
-    leave(0, 0, out, origins, spans);
+    lay_nothing(out, origins);
+    zero32(spans, TextAt(0));
     Marked::Refused(r)
 }
 
-// Converts a text that is right, in memory that is large enough.
+// Converts a text that is right, in memory that is large enough. Its cells stand behind the area of the output's length, where its marks are
+// written; output and origins are written at the end.
 fn convert(
     text: &[u8],
     out: &mut [u8],
     origins: &mut [u32],
     spans: &mut [u32],
+    work: &mut [u8],
     numbers: &mut [u32],
 ) -> Marked
-    requires { ⌜ ((length (now text) ≤ 262144) × (8 * length (now text) + 64 ≤ length (now numbers))) × (((length (now out) ≤ 16777216) × (length (now out) ≤ length (now origins))) × (2 * (length (now text) / 3) ≤ length (now spans))) ⌝ }
+    requires { ⌜ Room (length (now text)) (length (now out)) (length (now work)) (length (now numbers)) × ((length (now out) ≤ length (now origins)) × (2 * (length (now text) / 3) ≤ length (now spans))) ⌝ }
     ensures { λ r. ⌜ Converted (now (text .entry)) (length (now (out .entry))) (length (now (origins .entry))) (length (now (spans .entry))) r (now (out .exit)) (now (origins .exit)) (now (spans .exit)) ⌝ }
 {
-    let went = write_marks(text, numbers, out, origins, spans);
-    if out.len() < went.to {
+    let m = out.len();
+    set_cells(text, work, numbers, WorkAt(m));
+    let went = write_marks(work, numbers, text.len(), WorkAt(m), m, spans);
+    let to = went.to;
+    if m < to.0 {
         return refuse(Refusal::NoSpace, out, origins, spans);
     }
-    leave(went.to, went.count, out, origins, spans);
-    Marked::Done(went.to, went.count / 2)
+    lay_part(&work[..], &numbers[..], WorkAt(0), to, out, origins);
+    zero32(spans, TextAt(went.count));
+    Marked::Done(to.0, went.count / 2)
 }
 
 // Marks of a text: document 01's refusals 1 to 4, then 6.
@@ -74,6 +86,6 @@ pub fn convert_marks(
     );
     match checked {
         Checked::Refused(r) => refuse(r, out, origins, spans),
-        Checked::Fine => convert(text, out, origins, spans, numbers),
+        Checked::Fine => convert(text, out, origins, spans, work, numbers),
     }
 }

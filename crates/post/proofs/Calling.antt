@@ -3,36 +3,44 @@ use mathlib.Core.Path.{_≡_, refl, sym, ap, _∙_}
 use mathlib.Core.Bool.{Bool, true, false, cond}
 use mathlib.Core.List.{List, [], _++_}
 use Prim.Native.Nat.{ℕ, _+_, _-_, _*_, _≤_, _<_}
+use native.Mathlib.Nat.{zero-add, add-sub-cancel-left}
 use native.Mathlib.Omega.{arith}
 use native.Mathlib.Decide.{decLe}
-use lib.ListN.{length, take, replicate, length-map, length-append}
-use lib.Seq.{length-take-le, take-at, take-append-le, take-take}
+use lib.ListN.{length, take, drop, replicate, length-map, length-append, length-drop, take-append-drop}
+use lib.Seq.{length-take-le, take-at, take-append-le, take-take, drop-at, drop-drop}
 use lib.Dec.{ltb}
 use borrow.Author.Tests.{lt-ltb, le-ltb}
 use Rattle.text.specs.Cells.{Cell, cells, cellsOf, bytes, origins, part}
-use Rattle.text.specs.Writes.{Holds, cleared, padded}
+use Rattle.text.specs.Writes.{Holds, LaidOut, cleared, padded}
 use Rattle.lending.specs.Lent.{checked}
 use Rattle.lending.specs.declared.lent.Refusal.{Refusal}
 use Rattle.lending.specs.declared.lent.Refusal.the-variants.{TooDeep, NoSpace}
 use Rattle.lending.specs.declared.lent.Lent.{Lent}
 use Rattle.lending.specs.declared.lent.Checked.{Checked}
 use Rattle.lending.specs.declared.lent.Checked.the-variants as C
-use Rattle.text.proofs.Clearing.{laid-cleared}
-use Rattle.text.proofs.Copying.{length-cellsOf}
-use Rattle.text.proofs.Writing.{cells-le, cells-short, holds-fits}
+use Rattle.text.proofs.Areas.{drop-take, area-length}
+use Rattle.text.proofs.Clearing.{laid-cleared, cells-bytes}
+use Rattle.text.proofs.Sources.{cells-taken, cells-dropped, back-is, front-is}
+use Rattle.text.proofs.Copying.{length-cellsOf, bytes-cellsOf}
+use Rattle.text.proofs.Writing.{holds-fits}
 use Rattle.losses.specs.declared.Loss.{Loss}
 use Rattle.losses.specs.Records.{recordsLent}
 use Rattle.attribution_parts.specs.Attribution.{caption}
 use Rattle.quote_blocks.specs.Quotes as Quotes
-use Rattle.quote_blocks.proofs.QuotesFit.{quotes-fit}
-use Rattle.quote_losses.specs.Losses.{quoteLosses, lossBytes, lossRecords}
+use Rattle.quote_lines.specs.Lines.{tags}
+use Rattle.quote_losses.specs.Losses.{quoteLosses, lossBytes, lossRecords, ListsLosses}
 use Rattle.quotes.specs.Calls.{limited, Filled, Spelled}
+use Rattle.list_blocks.specs.Blocks.{between}
 use Rattle.list_blocks.specs.Tags as ListTags
+use Rattle.list_blocks.specs.Tags.{pushes}
 use Rattle.list_blocks.specs.Lists.{lists, listsNeed}
+use Rattle.list_steps.specs.Standing.{Written}
+use Rattle.post_steps.proofs.Pushing.{lost-pushes}
 use Rattle.list_steps.proofs.Needs.{lists-fits}
-use Rattle.post_steps.specs.Fills.{Fills, Lays}
+use Rattle.mark_tags.specs.Marks.{marks}
+use Rattle.marks.specs.Untagged.{Untagged}
 use Rattle.chain.specs.Post.{marksText, quotedText, finished}
-use Rattle.post.specs.Calls.{listing, quoting, marked, converted, answered, answerBy, Called, Copied, lossesBy, Noted, Ends, Numbered}
+use Rattle.post.specs.Calls.{listing, quoting, marked, converted, answered, answerBy, Called, Copied, lossesBy, Noted, Ends, Numbered, Quotable}
 use Rattle.post.specs.declared.Posted.{Posted}
 use Rattle.post.specs.declared.Posted.the-variants.{Done, Refused}
 use Rattle.chain.proofs.Chain.{finished-copied}
@@ -57,42 +65,132 @@ module _ (x : List Cell) (m a w : ℕ) where
   unfolding listing
   listing-deep h = rw h
 
-  module _ (fine : ListTags.tooDeep x ≡ false) (k r : ℕ) (out plain : List ℕ) (p : Lays m k (listsNeed x) (lists x) r out plain) where
-    lists-in : r ≤ m → listsNeed x ≤ m
-    lists-in h = elim (decLe (listsNeed x) m) [ yes g ↦ g | no g ↦ absurd (let f = p .full (omega arith) in omega arith) ]
-
-    pub listing-full : m < r → listing x m a w ≡ Refused NoSpace
+  module _ (fine : ListTags.tooDeep x ≡ false) where
+    pub listing-full : m < listsNeed x → listing x m a w ≡ Refused NoSpace
     unfolding listing
-    listing-full h =
-        let over : m < listsNeed x = elim (decLe (listsNeed x) m) [ yes g ↦ absurd (let f = lists-fits x in let e = p .fits g .0 in omega arith) | no g ↦ omega arith ] in
-        rw (fine, lt-ltb m (listsNeed x) over)
+    listing-full h = rw (fine, lt-ltb m (listsNeed x) h)
 
-    pub listing-done : {b : ℕ} {ws words : List ℕ} → r ≤ m → words ≡ padded b ws → Ends (lists x) ws m k b (listing x m a w) (Done r a w) out plain words
+    pub listing-done : {k b r : ℕ} {ws out plain words : List ℕ} {l : Posted} → listsNeed x ≤ m → r ≡ length (lists x) → l ≡ Done r a w → LaidOut (lists x) m k out plain → words ≡ padded b ws
+        → Ends (lists x) ws m k b (listing x m a w) l out plain words
     unfolding listing
-    listing-done h ew =
-        let g = lists-in h in
-        let f = p .fits g in
-        record { answer = rw (fine, le-ltb m (listsNeed x) g, f .0); filled = record { laid = f .1; spelled = ew } }
+    listing-done {r = r} h e g laid ew = rw g (record { answer = rw (fine, le-ltb m (listsNeed x) h, e); filled = record { laid = laid; spelled = ew } })
+
+-- what the pass on x writes from `base` on, laid out
+pub written-done : (x : List Cell) (base m a w r need : ℕ) (bs ns : List ℕ) {k b : ℕ} {ws out plain words : List ℕ} {l : Posted} → (ListTags.tooDeep x ≡ false) × Written x base m bs ns r need
+    → l ≡ Done (r - base) a w → LaidOut (part base r (cells bs ns)) m k out plain → words ≡ padded b ws → Ends (lists x) ws m k b (listing x m a w) l out plain words
+written-done x base m a w r need bs ns {l = l} d g laid ew =
+    let p = d .1 in
+    let e : r - base ≡ length (lists x) = omega (arith, p .end) in
+    listing-done x m a w (d .0) (omega (arith, p .needs, p .fits)) e g (rw (p .text) at laid) ew
+
+-- it ends within the room
+pub written-within : (x : List Cell) (base m : ℕ) {bs ns : List ℕ} {r need : ℕ} → Written x base m bs ns r need → (base ≤ r) × (r ≤ base + m)
+written-within x base m p = let f = lists-fits x in (omega (arith, p .end), omega (arith, p .end, p .needs, p .fits, f))
 
 -- ---- quotes
 
-module _ (x : List Cell) (m a w r : ℕ) (bs ns : List ℕ) (p : Fills m (Quotes.quotesNeed caption x) (Quotes.quotes caption x) r bs ns) where
-  pub quotes-in : r ≤ m → Quotes.quotesNeed caption x ≤ m
-  quotes-in h = elim (decLe (Quotes.quotesNeed caption x) m) [ yes g ↦ g | no g ↦ absurd (let f = p .full (omega arith) in omega arith) ]
-
-  pub quoting-full : m < r → quoting x m a w ≡ Refused NoSpace
+module _ (x : List Cell) (m a w : ℕ) where
+  pub quoting-full : m < Quotes.quotesNeed caption x → quoting x m a w ≡ Refused NoSpace
   unfolding quoting
-  quoting-full h =
-      let over : m < Quotes.quotesNeed caption x =
-      elim (decLe (Quotes.quotesNeed caption x) m) [ yes g ↦ absurd (let f = quotes-fit caption x in let e = p .fits g .0 in omega arith) | no g ↦ omega arith ] in
-      rw (lt-ltb m (Quotes.quotesNeed caption x) over)
+  quoting-full h = rw (lt-ltb m (Quotes.quotesNeed caption x) h)
 
-  pub quoting-done : r ≤ m → quoting x m a w ≡ listing (Quotes.quotes caption x) m a w
+  pub quoting-done : Quotes.quotesNeed caption x ≤ m → quoting x m a w ≡ listing (Quotes.quotes caption x) m a w
   unfolding quoting
-  quoting-done h = rw (le-ltb m (Quotes.quotesNeed caption x) (quotes-in h))
+  quoting-done h = rw (le-ltb m (Quotes.quotesNeed caption x) h)
 
-  pub quoted-there : r ≤ m → part m (m + r) (cells bs ns) ≡ Quotes.quotes caption x
-  quoted-there h = p .fits (quotes-in h) .1
+-- ---- a pair of slices
+
+-- the bytes of a part
+pub part-bytes : (a e : ℕ) (bs ns : List ℕ) → a ≤ e → e ≤ length bs → e ≤ length ns → bytes (part a e (cells bs ns)) ≡ take (e - a) (drop a bs)
+unfolding part
+part-bytes a e bs ns h hb hn =
+    let kb = length-drop a bs in
+    let kn = length-drop a ns in
+    ap bytes (drop-take a e (cells bs ns) ∙ ap (take (e - a)) (sym (cells-dropped a bs ns))) ∙ cells-bytes (e - a) (drop a bs) (drop a ns) (omega (arith, kb, hb, h)) (omega (arith, kn, hn, h))
+
+pub part-size : (a e : ℕ) (bs ns : List ℕ) → a ≤ e → e ≤ length bs → e ≤ length ns → length (part a e (cells bs ns)) ≡ e - a
+part-size a e bs ns h hb hn =
+    let kb = length-drop a bs in
+    sym (length-map (part a e (cells bs ns)) (λ (c : Cell). c .byte)) ∙ ap length (part-bytes a e bs ns h hb hn) ∙ length-take-le (e - a) (drop a bs) (omega (arith, kb, hb, h))
+
+-- the numbers before a place r have been lent
+
+-- cells before it
+pub lent-before : (k r : ℕ) (bs ns : List ℕ) → k ≤ r → take k (cells bs (take r ns)) ≡ take k (cells bs ns)
+lent-before k r bs ns h = sym (cells-taken k bs (take r ns)) ∙ ap (cells (take k bs)) (take-take k r ns h) ∙ cells-taken k bs ns
+
+pub part-before : (a e r : ℕ) (bs ns rest : List ℕ) → length ns ≡ r → e ≤ r → part a e (cells bs (ns ++ rest)) ≡ part a e (cells bs ns)
+unfolding part
+part-before a e r bs ns rest l h =
+    ap (drop a) (sym (cells-taken e bs (ns ++ rest)) ∙ ap (cells (take e bs)) (take-append-le e ns rest (omega (arith, l, h))) ∙ cells-taken e bs ns)
+
+-- numbers behind it stay
+pub stays-behind : (r a e : ℕ) (ns ys : List ℕ) → length ys ≡ r → r ≤ a → r ≤ length ns → between a e (ys ++ drop r ns) ≡ between a e ns
+unfolding between
+stays-behind r a e ns ys l h k =
+    let l' : length (take r ns) ≡ r = length-take-le r ns k in
+    let s : (xs : List ℕ) → length xs ≡ r → drop a (take e (xs ++ drop r ns)) ≡ take (e - a) (drop (a - r) (drop r ns)) =
+    λ xs q. drop-take a e (xs ++ drop r ns) ∙ ap (take (e - a)) (drop-past a r xs (drop r ns) q h) in
+    s ys l ∙ sym (s (take r ns) l') ∙ ap (λ (z : List ℕ). drop a (take e z)) (take-append-drop r ns)
+  where
+    drop-past : (a r : ℕ) (xs zs : List ℕ) → length xs ≡ r → r ≤ a → drop a (xs ++ zs) ≡ drop (a - r) zs
+    drop-past a r xs zs q h =
+        let z : a ≡ r + (a - r) = omega arith in
+        ap (λ (i : ℕ). drop i (xs ++ zs)) z ∙ sym (drop-drop (a - r) r (xs ++ zs)) ∙ ap (drop (a - r)) (drop-at xs zs r q)
+
+-- a part of what stays stays
+pub stays-in : (a e b f : ℕ) (ns ns' : List ℕ) → a ≤ b → f ≤ e → between a e ns' ≡ between a e ns → between b f ns' ≡ between b f ns
+unfolding between
+stays-in a e b f ns ns' h k p = inner ns' ∙ ap (λ (z : List ℕ). drop (b - a) (take (f - a) z)) p ∙ sym (inner ns)
+  where
+    inner : (xs : List ℕ) → drop b (take f xs) ≡ drop (b - a) (take (f - a) (drop a (take e xs)))
+    inner xs =
+        let z : b ≡ a + (b - a) = omega arith in
+        ap (drop b) (sym (take-take f e xs k)) ∙ ap (λ (i : ℕ). drop i (take f (take e xs))) z ∙ sym (drop-drop (b - a) a (take f (take e xs))) ∙ ap (drop (b - a)) (drop-take a f (take e xs))
+
+-- ---- quotes in work memory
+
+-- the numbers of the records, and what the quoted text pushes on the table of open lists
+pub quotable-room : {k r losses : ℕ} {work numbers out plain : List ℕ} → Quotable k r losses work numbers out plain
+    → 5 * losses + pushes (ListTags.tokens 0 (Quotes.quotes caption (take k (cells work numbers)))) ≤ 5 * k
+quotable-room {k} {work = work} {numbers = numbers} q =
+    let l = area-length work numbers k (omega (arith, q .areas)) (omega (arith, q .room)) in
+    let p = lost-pushes (take k (cells work numbers)) in
+    omega (arith, l, p, q .lost)
+
+part-within : (a e k : ℕ) (v : List Cell) → e ≤ k → part a e (take k v) ≡ part a e v
+unfolding part
+part-within a e k v h = ap (drop a) (take-take e k v h)
+
+-- what the pass leaves, where the numbers before r were lent
+pub quoted-there : (k m r to : ℕ) (work ns work' ys : List ℕ) → k ≤ r → length ys ≡ r → to ≤ k + m → k + m ≤ r
+    → part k to (take (k + m) (cells work' ys)) ≡ Quotes.quotes caption (take k (cells work (take r ns))) → part k to (cells work' (ys ++ drop r ns)) ≡ Quotes.quotes caption (take k (cells work ns))
+quoted-there k m r to work ns work' ys h l t f e =
+    part-before k to r work' ys (drop r ns) l (omega arith) ∙ sym (part-within k to (k + m) (cells work' ys) t) ∙ e ∙ ap (Quotes.quotes caption) (lent-before k r work ns h)
+
+-- what stays, taken from its start on
+pub stays-taken : (r n : ℕ) (ns ns' : List ℕ) → between r (r + n) ns' ≡ between r (r + n) ns → take n (drop r ns') ≡ take n (drop r ns)
+unfolding between
+stays-taken r n ns ns' p = sym (here ns') ∙ p ∙ here ns
+  where
+    here : (xs : List ℕ) → drop r (take (r + n) xs) ≡ take n (drop r xs)
+    here xs = drop-take r (r + n) xs ∙ ap (λ (k : ℕ). take k (drop r xs)) (add-sub-cancel-left r n)
+
+-- ---- the masked post, which stands from m on
+
+pub own-is : (xs ys : List ℕ) (m size : ℕ) → m ≤ length xs → take (m + size - m) (drop m (take m xs ++ (ys ++ drop (length xs - m) (drop m xs)))) ≡ take size ys
+own-is xs ys m size h = rw (add-sub-cancel-left m size, back-is xs ys m h) refl
+
+pub lost-as : {s s' m v rs rs₀ bs rs' bs' : List ℕ} {k to : ℕ} {d : Bool} → s ≡ s' → m ≡ v → rs ≡ rs₀ → ListsLosses s (tags 1 0 m) rs bs rs' bs' k to × Quotes.TooDeep s d
+    → ListsLosses s' (tags 1 0 v) rs₀ bs rs' bs' k to × Quotes.TooDeep s' d
+lost-as e f g p = rw (e, f, g) at p
+
+-- the marks text stays, where the bytes from m on and the numbers from r on have been lent
+pub cells-kept : (k m r : ℕ) (bs ns bs' ys : List ℕ) → k ≤ m → k ≤ r → r ≤ length ns → take m bs' ≡ take m bs
+    → take k (cells bs' (take r ns ++ (ys ++ drop (length ns - r) (drop r ns)))) ≡ take k (cells bs ns)
+cells-kept k m r bs ns bs' ys h f l e =
+    sym (cells-taken k bs' _) ∙ ap (λ (z : List ℕ). cells z (take k (take r ns ++ (ys ++ drop (length ns - r) (drop r ns))))) (sym (take-take k m bs' h) ∙ ap (take k) e ∙ take-take k m bs h)
+    ∙ ap (cells (take k bs)) (front-is ns ys r l k f) ∙ cells-taken k bs ns
 
 -- ---- losses
 
@@ -114,19 +212,15 @@ ends-spelled ws x losses size w p = rw (w .words-there) at p
 
 -- ---- marks
 
-module _ (post os gs : List ℕ) (m n j b : ℕ) (h : Holds (cells os gs) n (marksText post)) (lo : length os ≡ m) (lg : m ≤ length gs) where
-  size : length (cells os gs) ≡ m
-  size = let a = cells-le os gs m (omega arith) lg in let z = cells-short os gs in omega arith
-
+module _ (post : List ℕ) (v : List Cell) (m n j b : ℕ) (h : Holds v n (marksText post)) (size : length v ≡ m) where
   pub converted-full : m < n → converted post m j b ≡ Refused NoSpace
   unfolding converted
   converted-full far =
-      let l = size in
       let over : m < length (marksText post) = elim (decLe (length (marksText post)) m) [ yes g ↦ absurd (let e = h .end (omega arith) in omega arith) | no g ↦ omega arith ] in
       rw (lt-ltb m (length (marksText post)) over)
 
   fits : n ≤ m → length (marksText post) ≤ m
-  fits near = let l = size in let k = holds-fits (cells os gs) n (marksText post) h (omega arith) in omega arith
+  fits near = let k = holds-fits v n (marksText post) h (omega arith) in omega arith
 
   pub converted-done : n ≤ m → converted post m j b ≡ marked (marksText post) m j b
   unfolding converted
@@ -136,13 +230,22 @@ module _ (post os gs : List ℕ) (m n j b : ℕ) (h : Holds (cells os gs) n (mar
   pub marks-few : n ≤ m → n ≤ length post
   unfolding marksText
   marks-few near =
-      let l = size in
       let k = fits near in
       let e = h .end (omega arith) in
       omega (arith, e, marks-short (cellsOf post), length-cellsOf post)
 
-  pub marks-front : n ≤ m → take n (cells os gs) ≡ marksText post
-  marks-front near = h .text (let l = size in let k = fits near in omega arith)
+  pub marks-front : n ≤ m → take n v ≡ marksText post
+  marks-front near = h .text (let k = fits near in omega arith)
+
+-- a post that the pass leaves as it is
+pub marks-same : (post bs ns : List ℕ) (m : ℕ) → length post ≤ m → m ≤ length bs → m ≤ length ns → Untagged post → part 0 (0 + length post) (cells bs ns) ≡ cellsOf post → Holds (take m (cells bs ns)) (length post) (marksText post)
+unfolding marksText part
+marks-same post bs ns m h hb hn u e =
+    let t : marks (cellsOf post) .cells ≡ cellsOf post = u (cellsOf post) (bytes-cellsOf post) in
+    let l = length-cellsOf post in
+    let a = area-length bs ns m hb hn in
+    let f : take (length post) (cells bs ns) ≡ cellsOf post = ap (λ (k : ℕ). take k (cells bs ns)) (sym (zero-add (length post))) ∙ e in
+    rw t (record { end = λ _. sym l; text = λ _. take-take (length post) m (cells bs ns) h ∙ f; full = λ lt. absurd (omega (arith, lt, l, a, h)) })
 
 pub ends-finished : {m k j b : ℕ} {wanted l : Posted} {out plain numbers words : List ℕ} (post : List ℕ) (x : List Cell) → x ≡ marksText post
     → Ends (lists (Quotes.quotes caption x)) (lossBytes x) m k b wanted l out plain words × Noted (lossRecords post x) j l numbers
@@ -222,20 +325,13 @@ quoting-losses x m a w n a' w' = by (ltb m (Quotes.quotesNeed caption x)) (ListT
 pub few-losses : {losses : ℕ} (n : ℕ) (out : List ℕ) → n ≤ length out → losses ≤ length (take n out) → losses ≤ n
 few-losses n out h l = let e = length-take-le n out h in omega (arith, l, e)
 
--- behind the numbers of the records others were written
-module _ (rs : List ℕ) (j losses : ℕ) (ns rest : List ℕ) (few : losses ≤ j) (there : take (5 * losses) ns ≡ rs) (room : 5 * losses ≤ length ns) where
-  pub quoting-noted : (x : List Cell) (m w : ℕ) (l : Posted) → l ≡ quoting x m losses w → Noted rs j l (take (5 * losses) ns ++ rest)
-  quoting-noted x m w (Refused r) e = refused-noted rs j (Refused r) r (take (5 * losses) ns ++ rest) refl
+-- the numbers of the records stand in front
+module _ (rs : List ℕ) (j losses : ℕ) (ns : List ℕ) (few : losses ≤ j) (there : take (5 * losses) ns ≡ rs) (room : 5 * losses ≤ length ns) where
+  pub quoting-noted : (x : List Cell) (m w : ℕ) (l : Posted) → l ≡ quoting x m losses w → Noted rs j l ns
+  quoting-noted x m w (Refused r) e = refused-noted rs j (Refused r) r ns refl
   quoting-noted x m w (Done n a w') e =
       let f = quoting-losses x m losses w n a w' (sym e) in
-      let l : length (take (5 * losses) ns) ≡ 5 * losses = length-take-le (5 * losses) ns room in
-      let z = length-append (take (5 * losses) ns) rest in
-      let t = take-append-le (5 * losses) (take (5 * losses) ns) rest (omega (arith, l)) ∙ take-take (5 * losses) (5 * losses) ns (omega arith) ∙ there in
-      record {
-        room = omega (arith, f, l, z);
-        few = omega (arith, f);
-        there = ap (λ (i : ℕ). take (5 * i) (take (5 * losses) ns ++ rest)) f ∙ t;
-      }
+      record { room = omega (arith, f, room); few = omega (arith, f, few); there = ap (λ (i : ℕ). take (5 * i) ns) f ∙ there }
 
 pub noted-longer : (rs : List ℕ) (j : ℕ) (l : Posted) (ns rest : List ℕ) → Noted rs j l ns → Noted rs j l (ns ++ rest)
 noted-longer rs j l ns rest p =

@@ -4,21 +4,18 @@ use mathlib.Core.Bool.{false}
 use mathlib.Core.List.{List, []}
 use Prim.Native.Nat.{ℕ, _≤_}
 use native.Mathlib.Omega.{arith}
-use lib.ListN.{length, take, length-map}
-use lib.Seq.{length-take-le}
+use lib.ListN.{length}
 use borrow.Author.Tests.{le-ltb}
-use Rattle.text.specs.Cells.{Cell, cells, bytes}
+use Rattle.text.specs.Cells.{Cell, bytes}
 use Rattle.text.specs.Writes.{padded, LaidOut}
-use Rattle.text.proofs.Clearing.{cells-bytes}
 use Rattle.attribution_parts.specs.Attribution.{caption}
 use Rattle.attribution_losses.specs.Lists.{lossWords}
-use Rattle.quote_blocks.specs.Quotes.{attributions, quotesNeed}
+use Rattle.quote_blocks.specs.Quotes.{attributions, quotes, quotesNeed}
 use Rattle.quote_lines.specs.Lines.{linesOf}
 use Rattle.quote_losses.specs.Losses.{lossesIn, quoteLosses, lossBytes, recordsFrom, lossRecords}
 use Rattle.list_blocks.specs.Lists.{lists}
 use Rattle.post_steps.specs.Plain.{Unquoted, Unlisted}
-use Rattle.post_steps.proofs.Filling.{same-lays}
-use Rattle.post.specs.Calls.{listing, quoting, marked, Ends, Finishes}
+use Rattle.post.specs.Calls.{listing, quoting, marked, Noted, Ends}
 use Rattle.post.specs.declared.Posted.{Posted}
 use Rattle.post.specs.declared.Posted.the-variants.{Done}
 use Rattle.post.proofs.Calling.{ends-as, listing-done, marked-by, quoting-noted}
@@ -38,24 +35,14 @@ module _ (x : List Cell) (none : attributions x ≡ []) where
   unfolding lossRecords recordsFrom
   records-none post = ap (λ (names : List (List ℕ)). recordsFrom 1 0 names (linesOf post names)) none
 
--- the marks text is the first n cells of os and gs
-module _ (n m : ℕ) (os gs : List ℕ) (ho : n ≤ length os) (hg : n ≤ length gs) (near : n ≤ m) where
-  abbrev text : List Cell
-  text = take n (cells os gs)
-
-  text-bytes : bytes text ≡ take n os
-  text-bytes = cells-bytes n os gs ho hg
-
-  text-size : length text ≡ n
-  text-size = sym (length-map text (λ (c : Cell). c .byte)) ∙ ap length text-bytes ∙ length-take-le n os ho
-
-  module _ (u : Unquoted (take n os)) where
+-- the marks text has the bytes s, and is no longer than m
+module _ (text : List Cell) (s : List ℕ) (m : ℕ) (text-bytes : bytes text ≡ s) (near : length text ≤ m) where
+  module _ (u : Unquoted s) where
     quoting-none : quoting text m 0 0 ≡ listing text m 0 0
     unfolding quoting
     quoting-none =
         let g = u text text-bytes in
-        let s = text-size in
-        let fits : quotesNeed caption text ≤ m = omega (arith, g .1 .1, s) in
+        let fits : quotesNeed caption text ≤ m = omega (arith, g .1 .1, near) in
         rw (le-ltb m (quotesNeed caption text) fits, g .1 .0) refl
 
     marked-none : (j b : ℕ) → marked text m j b ≡ listing text m 0 0
@@ -66,14 +53,15 @@ module _ (n m : ℕ) (os gs : List ℕ) (ho : n ≤ length os) (hg : n ≤ lengt
         marked-by text m j b b 0 0 false refl (sym (g .0 .0)) (sym (ap length l)) (sym (ap length w)) ∙ rw (le-ltb j 0 (omega arith), le-ltb b 0 (omega arith)) quoting-none
 
     pub unquoted-finishes : {k b : ℕ} {out plain words : List ℕ} {l : Posted} (post : List ℕ) (j : ℕ) (numbers : List ℕ)
-        → Ends (lists text) [] m k b (listing text m 0 0) l out plain words → Finishes post text m k j b l out plain numbers words
+        → Ends (lists text) [] m k b (listing text m 0 0) l out plain words → Ends (lists (quotes caption text)) (lossBytes text) m k b (marked text m j b) l out plain words × Noted (lossRecords post text) j l numbers
     unquoted-finishes {b = b} {l = l} post j numbers p =
         let g = u text text-bytes in (
           ends-as (rw (g .1 .0, bytes-none text (g .0 .1)) p) (marked-none j b),
-          rw (records-none text (g .0 .1) post) (quoting-noted [] j 0 [] numbers (omega arith) refl (omega arith) text m 0 l (p .answer ∙ sym quoting-none)),
+          rw (records-none text (g .0 .1) post) (quoting-noted [] j 0 numbers (omega arith) refl (omega arith) text m 0 l (p .answer ∙ sym quoting-none)),
         )
 
-  pub unlisted-ends : {k b : ℕ} {ws out plain words : List ℕ} (a w : ℕ) → Unlisted (take n os) → LaidOut text m k out plain → words ≡ padded b ws
-      → Ends (lists text) ws m k b (listing text m a w) (Done n a w) out plain words
-  unlisted-ends {k} {out = out} {plain = plain} a w u laid spelled =
-      let g = u text text-bytes in listing-done text m a w (g .0) k n out plain (same-lays text text-size near (g .1) laid) near spelled
+  pub unlisted-ends : {k b r : ℕ} {ws out plain words : List ℕ} {l : Posted} (a w : ℕ) → Unlisted s → r ≡ length text → l ≡ Done r a w → LaidOut text m k out plain → words ≡ padded b ws
+      → Ends (lists text) ws m k b (listing text m a w) l out plain words
+  unlisted-ends {k} {b} {r} {ws} {out} {plain} a w u e g laid spelled =
+      let d = u text text-bytes in
+      listing-done text m a w (d .0) (omega (arith, d .1 .1, near)) (e ∙ ap length (sym (d .1 .0))) g (rw (d .1 .0) laid) spelled

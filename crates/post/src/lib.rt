@@ -1,44 +1,38 @@
 // The whole post (document 01, "Whole post"): marks, then quotes, then lists.
 use attribution_losses::loss::Counts;
+use leave::refuse;
 use lending::lent::Checked;
 use lending::lent::Lent;
 use lending::lent::Refusal;
 use lending::lent::Spans;
 use lending::lent::check;
-use list_steps::pass::FULL;
+use listed::write_unquoted;
 use losses::Loss;
 use losses::fill;
-use marks::leave::leave_text;
 use marks::pass::marks_pass;
-use post_steps::list::list_text;
-use post_steps::plain::no_lists;
+use marks::untagged::is_untagged;
 use post_steps::plain::no_quotes;
-use post_steps::quote::quote_text;
 use quote_lines::search::read_lines;
 use quote_losses::loss::Listed;
 use quote_losses::loss::list_losses;
+use quoted::write_noted;
 use quotes::refusal_of;
-use text::PostAt;
-use text::TextAt;
-use text::write::copy;
-use text::write::lay_nothing;
-use text::zero::zero8;
+use text::WorkAt;
+use text::bounds::numbers_size;
+use text::bounds::work_size;
+use text::source::set_cells;
 ghost use mathlib.Core.Path.{_≡_};
-ghost use mathlib.Core.Bool.{false};
-ghost use mathlib.Core.List.{[]};
 ghost use Prim.Native.Nat.{_+_, _*_, _≤_};
 ghost use lib.ListN.{length, take};
-ghost use Rattle.text.specs.Cells.{cells, part};
-ghost use Rattle.attribution_parts.specs.Attribution.{caption};
-ghost use Rattle.quote_tags.specs.Masks.{visible};
-ghost use Rattle.quote_lines.specs.Lines.{tags};
-ghost use Rattle.quote_blocks.specs.Quotes.{TooDeep, tooDeep, quotes};
-ghost use Rattle.quote_losses.specs.Losses.{ListsLosses, lossBytes, lossRecords};
-ghost use Rattle.quotes.specs.Calls.{Filled};
-ghost use Rattle.list_blocks.specs.Lists.{lists};
-ghost use Rattle.chain.specs.Post.{marksText, finished};
-ghost use Rattle.post.specs.Calls.{listing, quoting, converted, lossesBy, Called, Copied, Noted, Ends, Finishes, Numbered};
-ghost use Rattle.post.specs.declared.Posted.the-variants.{Refused};
+ghost use Rattle.text.specs.Bounds.{textMost, outMost, Room, numberMost};
+ghost use Rattle.text.specs.Cells.{cells};
+ghost use Rattle.text.specs.Writes.{Holds};
+ghost use Rattle.chain.specs.Post.{marksText};
+ghost use Rattle.post.specs.Calls.{lossesBy, Called, Copied, LostIn, Marked, Finishes, Converts, Numbered};
+
+pub mod leave;
+pub mod listed;
+pub mod quoted;
 
 // The lengths of the text and of the loss bytes, with the number of losses between; or why there is no text.
 pub enum Posted {
@@ -46,113 +40,26 @@ pub enum Posted {
     Refused(Refusal),
 }
 
-// A refusal: output, origins and loss bytes are zero.
-fn refuse(r: Refusal, out: &mut [u8], origins: &mut [u32], loss_bytes: &mut [u8]) -> Posted
-    ensures { λ l. ⌜ (l ≡ Refused r) × Filled [] [] (length (now (out .entry))) (length (now (origins .entry))) (length (now («loss_bytes» .entry))) (now (out .exit)) (now (origins .exit)) (now («loss_bytes» .exit)) ⌝ }
-{
-    lay_nothing(out, origins);
-    zero8(loss_bytes, TextAt(0));
-    Posted::Refused(r)
-}
-
-// Lists of the n cells of the work pair from place m on, m being the length of out; the losses are listed.
-fn write_lists(
-    n: usize,
-    losses: Counts,
-    work: &mut [u8],
-    numbers: &mut [u32],
-    out: &mut [u8],
-    origins: &mut [u32],
-    loss_bytes: &mut [u8],
-) -> Posted
-    requires { ⌜ (((n ≤ length (now out)) × ((length (now out) ≤ 16777216) × (length (now out) ≤ length (now origins)))) × ((3 * length (now out) ≤ length (now work)) × ((3 * length (now out) ≤ length (now numbers)) × (length (now numbers) ≤ 4294967295)))) × (losses .bytes ≤ length (now «loss_bytes»)) ⌝ }
-    ensures { λ r. ⌜ Ends (lists (part (length (now (out .entry))) (length (now (out .entry)) + n) (cells (now (work .entry)) (now (numbers .entry))))) (take (losses .bytes) (now («loss_bytes» .entry))) (length (now (out .entry))) (length (now (origins .entry))) (length (now («loss_bytes» .entry))) (listing (part (length (now (out .entry))) (length (now (out .entry)) + n) (cells (now (work .entry)) (now (numbers .entry)))) (length (now (out .entry))) (losses .losses) (losses .bytes)) r (now (out .exit)) (now (origins .exit)) (now («loss_bytes» .exit)) ⌝ }
-{
-    let r = list_text(n, work, numbers, out, origins);
-    if FULL < r {
-        return refuse(Refusal::TooDeep, out, origins, loss_bytes);
-    }
-    if out.len() < r {
-        return refuse(Refusal::NoSpace, out, origins, loss_bytes);
-    }
-    let count = losses.losses;
-    let bytes = losses.bytes;
-    zero8(loss_bytes, TextAt(bytes));
-    Posted::Done(r, count, bytes)
-}
-
-// Lists of the n cells at the front of out and origins, in which no quote stands. Where lists leaves them as they are, they are laid out where they
-// stand.
-fn write_unquoted(
-    n: usize,
-    work: &mut [u8],
-    numbers: &mut [u32],
-    out: &mut [u8],
-    origins: &mut [u32],
-    loss_bytes: &mut [u8],
-) -> Posted
-    requires { ⌜ ((n ≤ length (now out)) × ((length (now out) ≤ 16777216) × (length (now out) ≤ length (now origins)))) × ((3 * length (now out) ≤ length (now work)) × ((3 * length (now out) ≤ length (now numbers)) × (length (now numbers) ≤ 4294967295))) ⌝ }
-    ensures { λ r. ⌜ Ends (lists (take n (cells (now (out .entry)) (now (origins .entry))))) [] (length (now (out .entry))) (length (now (origins .entry))) (length (now («loss_bytes» .entry))) (listing (take n (cells (now (out .entry)) (now (origins .entry)))) (length (now (out .entry))) 0 0) r (now (out .exit)) (now (origins .exit)) (now («loss_bytes» .exit)) ⌝ }
-{
-    if no_lists(&out[..n]) {
-        leave_text(n, out, origins);
-        zero8(loss_bytes, TextAt(0));
-        return Posted::Done(n, 0, 0);
-    }
-    copy(
-        out,
-        origins,
-        PostAt(0),
-        PostAt(n),
-        work,
-        numbers,
-        TextAt(out.len()),
-    );
-    let none = Counts {
-        losses: 0,
-        bytes: 0,
-    };
-    write_lists(n, none, work, numbers, out, origins, loss_bytes)
-}
-
-// Quotes of the n cells at the front of out and origins, which are within quotes' limits, then lists; the losses are listed.
-fn write_quotes(
-    n: usize,
-    losses: Counts,
-    work: &mut [u8],
-    numbers: &mut [u32],
-    out: &mut [u8],
-    origins: &mut [u32],
-    loss_bytes: &mut [u8],
-) -> Posted
-    requires { ⌜ ((((n ≤ length (now out)) × ((length (now out) ≤ 16777216) × (length (now out) ≤ length (now origins)))) × ((3 * length (now out) ≤ length (now work)) × ((3 * length (now out) ≤ length (now numbers)) × (length (now numbers) ≤ 4294967295)))) × (losses .bytes ≤ length (now «loss_bytes»))) × (tooDeep (take n (cells (now out) (now origins))) ≡ false) ⌝ }
-    ensures { λ r. ⌜ Ends (lists (quotes caption (take n (cells (now (out .entry)) (now (origins .entry)))))) (take (losses .bytes) (now («loss_bytes» .entry))) (length (now (out .entry))) (length (now (origins .entry))) (length (now («loss_bytes» .entry))) (quoting (take n (cells (now (out .entry)) (now (origins .entry)))) (length (now (out .entry))) (losses .losses) (losses .bytes)) r (now (out .exit)) (now (origins .exit)) (now («loss_bytes» .exit)) ⌝ }
-{
-    let q = quote_text(n, work, numbers, out, origins);
-    if out.len() < q {
-        return refuse(Refusal::NoSpace, out, origins, loss_bytes);
-    }
-    write_lists(q, losses, work, numbers, out, origins, loss_bytes)
-}
-
-// Lists the losses of the first n bytes, with lines in the post, and counts how deep the quotes stand: the numbers of the records before `base`.
+// Lists the losses of the marks text, the first k work bytes, with lines in the post, and counts how deep the quotes stand. The post is masked in the
+// work bytes from m on; the numbers of the records stand at the front of the numbers, for five of which there is room for each byte of the post.
 fn list_lost(
     post: &[u8],
-    n: usize,
-    out: &[u8],
+    k: usize,
+    m: usize,
     work: &mut [u8],
     numbers: &mut [u32],
-    base: usize,
     loss_bytes: &mut [u8],
 ) -> Listed
-    requires { ⌜ ((length (now post) ≤ 262144) × ((length (now post) ≤ length (now work)) × (base + length (now post) ≤ length (now numbers)))) × ((n ≤ length (now out)) × (n ≤ 16777216)) ⌝ }
-    ensures { λ r. ⌜ ListsLosses (take n (now (out .entry))) (tags 1 0 (visible (now (post .entry)))) (take base (now (numbers .entry))) (now («loss_bytes» .entry)) (take base (now (numbers .exit))) (now («loss_bytes» .exit)) (r .losses) (r .bytes) × TooDeep (take n (now (out .entry))) (r .deep) ⌝ }
+    requires { ⌜ ((length (now post) ≤ textMost) × ((m + length (now post) ≤ length (now work)) × (6 * length (now post) ≤ length (now numbers)))) × ((k ≤ m) × (m ≤ outMost)) ⌝ }
+    ensures { λ r. ⌜ LostIn (now (post .entry)) (take k (now (work .entry))) (now (numbers .entry)) (now («loss_bytes» .entry)) (now (numbers .exit)) (now («loss_bytes» .exit)) r × (take m (now (work .exit)) ≡ take m (now (work .entry))) ⌝ }
 {
-    let own = read_lines(post, work, &mut numbers[base..]);
-    let size = own.size;
+    let base = 5 * post.len();
+    let own = read_lines(post, &mut work[m..], &mut numbers[base..]);
+    let e = m + own.size;
+    let memory = &work[..];
     list_losses(
-        &out[..n],
-        &work[..size],
+        &memory[..k],
+        &memory[m..e],
         numbers,
         base,
         own.count,
@@ -160,12 +67,11 @@ fn list_lost(
     )
 }
 
-// Losses, quotes and lists of the marks text of a post, the n cells at the front of out and origins. It has no more losses than cells, and no more
-// cells than the post has bytes, so five numbers for each byte hold the numbers of their records; the passes have the work numbers behind the
-// records, most of which marks has just used.
+// Losses, quotes and lists of the marks text of a post, the first k cells, which are no more than the post has bytes. The numbers of the records stand
+// behind the areas of the passes.
 fn convert_quoted(
     post: &[u8],
-    n: usize,
+    k: usize,
     lent: usize,
     work: &mut [u8],
     numbers: &mut [u32],
@@ -173,11 +79,12 @@ fn convert_quoted(
     origins: &mut [u32],
     loss_bytes: &mut [u8],
 ) -> Posted
-    requires { ⌜ ((length (now post) ≤ 262144) × (((n ≤ length (now out)) × (n ≤ length (now post))) × ((length (now out) ≤ 16777216) × (length (now out) ≤ length (now origins))))) × ((length (now post) + 3 * length (now out) ≤ length (now work)) × ((8 * length (now post) + 3 * length (now out) + 64 ≤ length (now numbers)) × (length (now numbers) ≤ 4294967295))) ⌝ }
-    ensures { λ r. ⌜ Finishes (now (post .entry)) (take n (cells (now (out .entry)) (now (origins .entry)))) (length (now (out .entry))) (length (now (origins .entry))) lent (length (now («loss_bytes» .entry))) r (now (out .exit)) (now (origins .exit)) (now (numbers .exit)) (now («loss_bytes» .exit)) ⌝ }
+    requires { ⌜ Marked (now post) k (now work) (now numbers) (now out) (now origins) ⌝ }
+    ensures { λ r. ⌜ Finishes (now (post .entry)) (take k (cells (now (work .entry)) (now (numbers .entry)))) lent (now (out .entry)) (now (origins .entry)) (now («loss_bytes» .entry)) r (now (out .exit)) (now (origins .exit)) (now (numbers .exit)) (now («loss_bytes» .exit)) ⌝ }
 {
-    let base = 5 * post.len();
-    let c = list_lost(post, n, out, work, numbers, base, loss_bytes);
+    let m = out.len();
+    let first = work_size(post.len(), m);
+    let c = list_lost(post, k, m, work, &mut numbers[first..], loss_bytes);
     let losses = c.losses;
     let bytes = c.bytes;
     let many = lent < losses;
@@ -185,11 +92,12 @@ fn convert_quoted(
     let refused = refusal_of(c.deep, many, long);
     match refused {
         Checked::Refused(r) => refuse(r, out, origins, loss_bytes),
-        Checked::Fine => write_quotes(
-            n,
+        Checked::Fine => write_noted(
+            k,
+            WorkAt(first),
             Counts { losses, bytes },
             work,
-            &mut numbers[5 * losses..],
+            numbers,
             out,
             origins,
             loss_bytes,
@@ -200,7 +108,7 @@ fn convert_quoted(
 // The same, for any marks text. Where no quote stands in it there are no losses, and no line of the post is looked for.
 fn convert_marked(
     post: &[u8],
-    n: usize,
+    k: usize,
     lent: usize,
     work: &mut [u8],
     numbers: &mut [u32],
@@ -208,13 +116,30 @@ fn convert_marked(
     origins: &mut [u32],
     loss_bytes: &mut [u8],
 ) -> Posted
-    requires { ⌜ ((length (now post) ≤ 262144) × (((n ≤ length (now out)) × (n ≤ length (now post))) × ((length (now out) ≤ 16777216) × (length (now out) ≤ length (now origins))))) × ((length (now post) + 3 * length (now out) ≤ length (now work)) × ((8 * length (now post) + 3 * length (now out) + 64 ≤ length (now numbers)) × (length (now numbers) ≤ 4294967295))) ⌝ }
-    ensures { λ r. ⌜ Finishes (now (post .entry)) (take n (cells (now (out .entry)) (now (origins .entry)))) (length (now (out .entry))) (length (now (origins .entry))) lent (length (now («loss_bytes» .entry))) r (now (out .exit)) (now (origins .exit)) (now (numbers .exit)) (now («loss_bytes» .exit)) ⌝ }
+    requires { ⌜ Marked (now post) k (now work) (now numbers) (now out) (now origins) ⌝ }
+    ensures { λ r. ⌜ Finishes (now (post .entry)) (take k (cells (now (work .entry)) (now (numbers .entry)))) lent (now (out .entry)) (now (origins .entry)) (now («loss_bytes» .entry)) r (now (out .exit)) (now (origins .exit)) (now (numbers .exit)) (now («loss_bytes» .exit)) ⌝ }
 {
-    if no_quotes(&out[..n]) {
-        return write_unquoted(n, work, numbers, out, origins, loss_bytes);
+    if no_quotes(&work[..k]) {
+        let table = WorkAt(work_size(post.len(), out.len()));
+        return write_unquoted(k, table, work, numbers, out, origins, loss_bytes);
     }
-    convert_quoted(post, n, lent, work, numbers, out, origins, loss_bytes)
+    convert_quoted(post, k, lent, work, numbers, out, origins, loss_bytes)
+}
+
+// Marks of a post, written into the first m cells; the place behind them, past m where they do not fit. A post without `[` that fits is its own.
+fn mark_post(post: &[u8], m: usize, work: &mut [u8], numbers: &mut [u32]) -> WorkAt
+    requires { ⌜ Room (length (now post)) m (length (now work)) (length (now numbers)) ⌝ }
+    ensures { λ r. ⌜ Holds (take m (cells (now (work .exit)) (now (numbers .exit)))) (r .0) (marksText (now (post .entry))) ⌝ }
+{
+    let n = post.len();
+    if n <= m {
+        if is_untagged(post) {
+            set_cells(post, work, numbers, WorkAt(0));
+            return WorkAt(n);
+        }
+    }
+    set_cells(post, work, numbers, WorkAt(m));
+    marks_pass(work, numbers, n, WorkAt(m), m)
 }
 
 // Converts a post that is right, in memory that is large enough.
@@ -227,10 +152,10 @@ fn convert(
     origins: &mut [u32],
     loss_bytes: &mut [u8],
 ) -> Posted
-    requires { ⌜ ((length (now post) ≤ 262144) × ((length (now out) ≤ 16777216) × (length (now out) ≤ length (now origins)))) × ((length (now post) + 3 * length (now out) ≤ length (now work)) × ((8 * length (now post) + 3 * length (now out) + 64 ≤ length (now numbers)) × (length (now numbers) ≤ 4294967295))) ⌝ }
-    ensures { λ r. ⌜ Ends (finished (now (post .entry))) (lossBytes (marksText (now (post .entry)))) (length (now (out .entry))) (length (now (origins .entry))) (length (now («loss_bytes» .entry))) (converted (now (post .entry)) (length (now (out .entry))) lent (length (now («loss_bytes» .entry)))) r (now (out .exit)) (now (origins .exit)) (now («loss_bytes» .exit)) × Noted (lossRecords (now (post .entry)) (marksText (now (post .entry)))) lent r (now (numbers .exit)) ⌝ }
+    requires { ⌜ (Room (length (now post)) (length (now out)) (length (now work)) (length (now numbers)) × (length (now out) ≤ length (now origins))) × (length (now numbers) ≤ numberMost) ⌝ }
+    ensures { λ r. ⌜ Converts (now (post .entry)) lent (now (out .entry)) (now (origins .entry)) (now («loss_bytes» .entry)) r (now (out .exit)) (now (origins .exit)) (now (numbers .exit)) (now («loss_bytes» .exit)) ⌝ }
 {
-    let z = marks_pass(post, numbers, out, origins);
+    let z = mark_post(post, out.len(), work, numbers);
     let n = z.0;
     if out.len() < n {
         return refuse(Refusal::NoSpace, out, origins, loss_bytes);
@@ -248,10 +173,10 @@ fn convert_in(
     origins: &mut [u32],
     loss_bytes: &mut [u8],
 ) -> Posted
-    requires { ⌜ ((length (now post) ≤ 262144) × ((length (now out) ≤ 16777216) × (length (now out) ≤ length (now origins)))) × ((length (now post) + 3 * length (now out) ≤ length (now work)) × (8 * length (now post) + 3 * length (now out) + 64 ≤ length (now numbers))) ⌝ }
-    ensures { λ r. ⌜ Ends (finished (now (post .entry))) (lossBytes (marksText (now (post .entry)))) (length (now (out .entry))) (length (now (origins .entry))) (length (now («loss_bytes» .entry))) (converted (now (post .entry)) (length (now (out .entry))) lent (length (now («loss_bytes» .entry)))) r (now (out .exit)) (now (origins .exit)) (now («loss_bytes» .exit)) × Noted (lossRecords (now (post .entry)) (marksText (now (post .entry)))) lent r (now (numbers .exit)) ⌝ }
+    requires { ⌜ Room (length (now post)) (length (now out)) (length (now work)) (length (now numbers)) × (length (now out) ≤ length (now origins)) ⌝ }
+    ensures { λ r. ⌜ Converts (now (post .entry)) lent (now (out .entry)) (now (origins .entry)) (now («loss_bytes» .entry)) r (now (out .exit)) (now (origins .exit)) (now (numbers .exit)) (now («loss_bytes» .exit)) ⌝ }
 {
-    let used = 8 * post.len() + 3 * out.len() + 64;
+    let used = numbers_size(post.len(), out.len());
     convert(
         post,
         lent,

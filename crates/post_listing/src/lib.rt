@@ -9,6 +9,7 @@ use text::TextAt;
 ghost use mathlib.Core.Path.{_≡_};
 ghost use Prim.Native.Nat.{_≤_, min};
 ghost use lib.ListN.{length};
+ghost use Rattle.text.specs.Bounds.{outMost};
 ghost use Rattle.listing.specs.Listing.{Adds};
 ghost use Rattle.post_listing.specs.Prints.{answerListing, postListing, threadListing};
 ghost use Rattle.post.specs.Calls.{Called};
@@ -66,7 +67,7 @@ fn list_done(
     buf: &mut [u8],
     nums: &mut [u32],
 ) -> TextAt
-    requires { ⌜ (length (now out) ≡ length (now origins)) × ((length (now out) ≤ 16777216) × (length records ≡ 64)) ⌝ }
+    requires { ⌜ (length (now out) ≡ length (now origins)) × ((length (now out) ≤ outMost) × (length records ≡ 64)) ⌝ }
     ensures { λ r. ⌜ Adds (now (buf .entry)) (now (nums .entry)) 0 (now (buf .exit)) (now (nums .exit)) (r .0) (answerListing (Done size losses used) (now (out .entry)) (now (origins .entry)) records (now («loss_bytes» .entry))) ⌝ }
 {
     let a = least(size, out.len());
@@ -95,7 +96,7 @@ fn list_post(
     buf: &mut [u8],
     nums: &mut [u32],
 ) -> TextAt
-    requires { ⌜ (length (now out) ≡ length (now origins)) × (length (now out) ≤ 16777216) ⌝ }
+    requires { ⌜ (length (now out) ≡ length (now origins)) × (length (now out) ≤ outMost) ⌝ }
     ensures { λ r. ⌜ Adds (now (buf .entry)) (now (nums .entry)) 0 (now (buf .exit)) (now (nums .exit)) (r .0) (postListing (now (post .entry)) (length (now (out .entry))) (length (now (origins .entry))) (length (now («loss_bytes» .entry))) (length (now (work .entry))) (length (now (numbers .entry)))) ⌝ }
 {
     if POST_MOST < post.len() {

@@ -1,5 +1,3 @@
-// The passes of the chain that stand in work memory: quotes, which reads the marks text, and lists, which reads what quotes hands on.
+// What the chain takes besides its passes: whether a pass leaves a text as it is, and moving numbers to the front.
 pub mod front;
-pub mod list;
 pub mod plain;
-pub mod quote;

@@ -60,30 +60,6 @@ quoted-by x y z p q a b c = rw (sym p, sym q) (appends-then (appends-then a b) c
 
 -- ---- the caption
 
--- how many cells a pair of slices has goes by their lengths
-pub cells-same : (bs ns bs' ns' : List ℕ) → length bs' ≡ length bs → length ns' ≡ length ns → length (cells bs' ns') ≡ length (cells bs ns)
-cells-same bs ns bs' ns' p q =
-    let a = cells-short bs ns in let b = cells-short₂ bs ns in
-    let a' = cells-short bs' ns' in let b' = cells-short₂ bs' ns' in
-    let x = cells-le bs' ns' (length (cells bs ns)) (omega arith) (omega arith) in
-    let y = cells-le bs ns (length (cells bs' ns')) (omega arith) (omega arith) in
-    omega arith
-
--- whether a place is past their end goes by both lengths
-pub is-past : (bs ns : List ℕ) (k : ℕ) → (ltb (length bs) k || ltb (length ns) k) ≡ true → length (cells bs ns) < k
-is-past bs ns k h = by (ltb (length bs) k) refl h
-  where
-    by : (t : Bool) → ltb (length bs) k ≡ t → (t || ltb (length ns) k) ≡ true → length (cells bs ns) < k
-    by true e o = let l = cells-short bs ns in let f = ltb-true (length bs) k e in omega arith
-    by false e o = let l = cells-short₂ bs ns in let f = ltb-true (length ns) k o in omega arith
-
-pub not-past : (bs ns : List ℕ) (k : ℕ) → (ltb (length bs) k || ltb (length ns) k) ≡ false → k ≤ length (cells bs ns)
-not-past bs ns k h = by (ltb (length bs) k) refl h
-  where
-    by : (t : Bool) → ltb (length bs) k ≡ t → (t || ltb (length ns) k) ≡ false → k ≤ length (cells bs ns)
-    by true e o = absurd (true≢false o)
-    by false e o = cells-le bs ns k (ltb-false (length bs) k e) (ltb-false (length ns) k o)
-
 -- what does not fit
 pub past-end : (v : List Cell) (at far : ℕ) (t : List Cell) → length v < at + length t → length v < far → at ≤ far → Appends v at v far t
 past-end v at far t short lt up = record {
@@ -96,7 +72,7 @@ past-end v at far t short lt up = record {
 }
 
 -- what has been appended does not count
-taken-back : {v v' t : List Cell} {at at' : ℕ} → Appends v at v' at' t → length v' ≡ length v → Appends v at v' at []
+pub taken-back : {v v' t : List Cell} {at at' : ℕ} → Appends v at v' at' t → length v' ≡ length v → Appends v at v' at []
 taken-back a size = record {
   step = λ s h. rw append-nil (record { end = λ le. h .end (omega arith); text = λ le. a .keeps ∙ h .text (omega arith); full = λ lt. (let f = h .full (omega arith) in omega arith) });
   keeps = a .keeps;

@@ -17,6 +17,7 @@ use mathlib.Core.List.{List, [], _∷_, _++_, map}
 use lib.ListN.{length, take, drop}
 use lib.Dec.{leb, ltb}
 use Rattle.text.specs.Ascii.{ascii}
+use Rattle.text.specs.Bounds.{deepMost}
 use Rattle.text.specs.Cells.{Cell, written, feed, bytes}
 use Rattle.text.specs.Lines.{trim, allBlank, lines, joined}
 use Rattle.quote_tags.specs.Tags.{openerSize, closerSize, attributionOf}
@@ -70,13 +71,10 @@ attributions x = attributionsIn (tokens 0 x)
 
 -- ---- the limit
 
-abbrev pub quotesMost : ℕ
-quotesMost = 64
-
 unfoldable pub tooDeepFrom : (depth : ℕ) → List Token → Bool
 tooDeepFrom depth [] = false
 tooDeepFrom depth (text c ∷ r) = tooDeepFrom depth r
-tooDeepFrom depth (opens tag a ∷ r) = leb quotesMost depth || tooDeepFrom (suc depth) r
+tooDeepFrom depth (opens tag a ∷ r) = leb deepMost depth || tooDeepFrom (suc depth) r
 tooDeepFrom depth (closes tag ∷ r) = tooDeepFrom (depth - 1) r
 
 unfoldable pub tooDeep : List Cell → Bool
@@ -84,7 +82,7 @@ tooDeep x = tooDeepFrom 0 (tokens 0 x)
 
 -- behind a token of the bytes s, from place i with so many quotes open to place i'; more than 64 where the token is one opener too many
 pub record DepthBehind (s : List ℕ) (i depth i' depth' : ℕ) : Type 0 where
-  pub same : (x : List Cell) → bytes x ≡ s → tooDeepFrom depth (tokens 0 (drop i x)) ≡ cond (ltb quotesMost depth') true (tooDeepFrom depth' (tokens 0 (drop i' x)))
+  pub same : (x : List Cell) → bytes x ≡ s → tooDeepFrom depth (tokens 0 (drop i x)) ≡ cond (ltb deepMost depth') true (tooDeepFrom depth' (tokens 0 (drop i' x)))
 
 -- of every text with the bytes s
 abbrev pub TooDeep : List ℕ → Bool → Type 0

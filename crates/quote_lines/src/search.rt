@@ -14,6 +14,7 @@ ghost use mathlib.Core.Path.{_≡_};
 ghost use mathlib.Core.Bool.{true, cond};
 ghost use Prim.Native.Nat.{ℕ, _+_, _-_, _*_, _≤_, _<_};
 ghost use lib.ListN.{length, take, drop};
+ghost use Rattle.text.specs.Bounds.{textMost, outMost};
 ghost use Rattle.text.specs.Ascii.{toBracket};
 ghost use Rattle.quote_tags.specs.Tags.{NextBracket, openerSize};
 ghost use Rattle.quote_lines.specs.Lines.{bare, tags, same, find, place, nextAfter, lineAt};
@@ -138,7 +139,7 @@ pub fn attribution_size(k: usize) -> usize
 
 // Writes the numbers of a tag in this line, whose attribution stands from a on.
 fn put_tag(s: &[u8], numbers: &mut [u32], p: usize, line: usize, a: usize, size: usize)
-    requires { ⌜ ((a + size ≤ length (now s)) × (length (now s) ≤ 262144)) × ((line ≤ 1000000) × (p + 3 ≤ length (now numbers))) ⌝ }
+    requires { ⌜ ((a + size ≤ length (now s)) × (length (now s) ≤ textMost)) × ((line ≤ 1000000) × (p + 3 ≤ length (now numbers))) ⌝ }
     ensures { λ _. ⌜ TagAt (now (s .entry)) (now (numbers .exit)) p line (take size (drop a (now (s .entry)))) × (take p (now (numbers .exit)) ≡ take p (now (numbers .entry))) ⌝ }
 {
     numbers[p] = line as u32;
@@ -204,7 +205,7 @@ fn next_opener(s: &[u8], at: PostAt, known: PostAt) -> Opener
 
 // Reads the next tag from a place on.
 fn read_tag(s: &[u8], numbers: &mut [u32], t: usize, from: Reading) -> Reading
-    requires { ⌜ ((from .at .0 < length (now s)) × (length (now s) ≤ 262144)) × ((t + length (now s) ≤ length (now numbers)) × (NextBracket (now s) (from .at .0) (from .bracket .0) × Tabled (now s) (now numbers) t (from .at .0) (from .line) (from .count))) ⌝ }
+    requires { ⌜ ((from .at .0 < length (now s)) × (length (now s) ≤ textMost)) × ((t + length (now s) ≤ length (now numbers)) × (NextBracket (now s) (from .at .0) (from .bracket .0) × Tabled (now s) (now numbers) t (from .at .0) (from .line) (from .count))) ⌝ }
     ensures { λ r. ⌜ ((from .at .0 < r .at .0) × (r .at .0 ≤ length (now (s .entry)))) × ((take t (now (numbers .exit)) ≡ take t (now (numbers .entry))) × (NextBracket (now (s .entry)) (r .at .0) (r .bracket .0) × Tabled (now (s .entry)) (now (numbers .exit)) t (r .at .0) (r .line) (r .count))) ⌝ }
 {
     let at = from.at;
@@ -248,7 +249,7 @@ fn words_at<'a>(s: &'a [u8], numbers: &[u32], p: usize) -> &'a [u8]
 
 // Writes behind the numbers of the tags what their attributions weigh.
 fn put_weights(s: &[u8], numbers: &mut [u32], t: usize, count: usize)
-    requires { ⌜ ((length (now s) ≤ 262144) × (t + 4 * count ≤ length (now numbers))) × ((k : ℕ) → k < count → WordsIn (now s) (now numbers) (t + 3 * k)) ⌝ }
+    requires { ⌜ ((length (now s) ≤ textMost) × (t + 4 * count ≤ length (now numbers))) × ((k : ℕ) → k < count → WordsIn (now s) (now numbers) (t + 3 * k)) ⌝ }
     ensures { λ _. ⌜ Weighed (now (s .entry)) (now (numbers .exit)) t count × (take (t + 3 * count) (now (numbers .exit)) ≡ take (t + 3 * count) (now (numbers .entry))) ⌝ }
 {
     let mut i: usize = 0;
@@ -261,7 +262,7 @@ fn put_weights(s: &[u8], numbers: &mut [u32], t: usize, count: usize)
 
 // Writes the table of the quote tags of a text from place t of the numbers on, and returns how many there are.
 pub fn read_tags(s: &[u8], numbers: &mut [u32], t: usize) -> usize
-    requires { ⌜ (length (now s) ≤ 262144) × (t + length (now s) ≤ length (now numbers)) ⌝ }
+    requires { ⌜ (length (now s) ≤ textMost) × (t + length (now s) ≤ length (now numbers)) ⌝ }
     ensures { λ r. ⌜ Table (now (s .entry)) (now (numbers .exit)) t r × (take t (now (numbers .exit)) ≡ take t (now (numbers .entry))) ⌝ }
 {
     let mut st = Reading {
@@ -289,7 +290,7 @@ pub struct Lines {
 
 // Masks a text at the front of a slice, and writes the table of its quote tags at the front of the numbers.
 pub fn read_lines(text: &[u8], work: &mut [u8], numbers: &mut [u32]) -> Lines
-    requires { ⌜ (length (now text) ≤ 262144) × ((length (now text) ≤ length (now work)) × (length (now text) ≤ length (now numbers))) ⌝ }
+    requires { ⌜ (length (now text) ≤ textMost) × ((length (now text) ≤ length (now work)) × (length (now text) ≤ length (now numbers))) ⌝ }
     ensures { λ r. ⌜ LinesRead (now (text .entry)) (now (work .exit)) (now (numbers .exit)) (r .size) (r .count) ⌝ }
 {
     set_source(text, work);
@@ -307,7 +308,7 @@ fn find_tag(
     next: usize,
     attribution: &[u8],
 ) -> usize
-    requires { ⌜ Table (now s) (now numbers) t count × (length (now attribution) ≤ 16777216) ⌝ }
+    requires { ⌜ Table (now s) (now numbers) t count × (length (now attribution) ≤ outMost) ⌝ }
     ensures { λ r. ⌜ r ≡ next + find (now (attribution .entry)) (drop next (tags 1 0 (now (s .entry)))) ⌝ }
 {
     // A quote that marks left as it was has just the attribution of tag `next`.
@@ -356,7 +357,7 @@ pub fn line_of(
     next: usize,
     attribution: &[u8],
 ) -> Found
-    requires { ⌜ Table (now s) (now numbers) t count × (length (now attribution) ≤ 16777216) ⌝ }
+    requires { ⌜ Table (now s) (now numbers) t count × (length (now attribution) ≤ outMost) ⌝ }
     ensures { λ r. ⌜ (r .line ≡ lineAt (tags 1 0 (now (s .entry))) (place (tags 1 0 (now (s .entry))) next (now (attribution .entry)))) × (r .next ≡ nextAfter (tags 1 0 (now (s .entry))) next (now (attribution .entry))) ⌝ }
 {
     let i = find_tag(s, numbers, t, count, next, attribution);

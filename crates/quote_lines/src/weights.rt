@@ -5,13 +5,14 @@ ghost use mathlib.Core.Bool.{true};
 ghost use Prim.Native.Nat.{_+_, _*_, _≤_};
 ghost use lib.ListN.{length, drop};
 ghost use lib.Dec.{eqb};
+ghost use Rattle.text.specs.Bounds.{outMost};
 ghost use Rattle.text.specs.Ascii.{toFirst};
 ghost use Rattle.quote_lines.specs.Lines.{bare};
 ghost use Rattle.quote_lines.specs.Tables.{weight};
 
 // The weight of a text without its backslashes.
 pub fn bare_weight(s: &[u8]) -> usize
-    requires { ⌜ length (now s) ≤ 16777216 ⌝ }
+    requires { ⌜ length (now s) ≤ outMost ⌝ }
     ensures { λ r. ⌜ (r ≡ weight (bare (now (s .entry)))) × (r ≤ 511 * length (now (s .entry))) ⌝ }
 {
     let mut n: usize = 0;

@@ -1,2 +1,3 @@
 pub mod Depths
 pub mod Recording
+pub mod Bounds

@@ -1,16 +1,15 @@
 // Refusal 5: an opener met while 64 quotes are open. The depth is counted over the whole text before anything is written, with the losses.
+use text::bounds::DEEP_MOST;
 ghost use mathlib.Core.Path.{_≡_};
 ghost use Prim.Native.Nat.{_+_, _-_, _≤_, _<_};
-
-// How many quotes may be open.
-pub const QUOTES_MOST: usize = 64;
+ghost use Rattle.text.specs.Bounds.{deepMost};
 
 // How many quotes are open behind an opener. One more than may be open stays so.
 pub fn open_more(open: usize) -> usize
-    requires { ⌜ «open» ≤ 65 ⌝ }
-    ensures { λ r. ⌜ («open» ≤ 64 → r ≡ «open» + 1) × ((64 < «open» → r ≡ «open») × (r ≤ 65)) ⌝ }
+    requires { ⌜ «open» ≤ deepMost + 1 ⌝ }
+    ensures { λ r. ⌜ («open» ≤ deepMost → r ≡ «open» + 1) × ((deepMost < «open» → r ≡ «open») × (r ≤ deepMost + 1)) ⌝ }
 {
-    if QUOTES_MOST < open {
+    if DEEP_MOST < open {
         return open;
     }
     open + 1
@@ -18,10 +17,10 @@ pub fn open_more(open: usize) -> usize
 
 // How many quotes are open behind a closer, likewise.
 pub fn open_less(open: usize) -> usize
-    requires { ⌜ «open» ≤ 65 ⌝ }
-    ensures { λ r. ⌜ («open» ≤ 64 → r ≡ «open» - 1) × ((64 < «open» → r ≡ «open») × (r ≤ 65)) ⌝ }
+    requires { ⌜ «open» ≤ deepMost + 1 ⌝ }
+    ensures { λ r. ⌜ («open» ≤ deepMost → r ≡ «open» - 1) × ((deepMost < «open» → r ≡ «open») × (r ≤ deepMost + 1)) ⌝ }
 {
-    if QUOTES_MOST < open {
+    if DEEP_MOST < open {
         return open;
     }
     if open == 0 {

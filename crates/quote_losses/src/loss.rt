@@ -1,7 +1,6 @@
 // The losses of a text's quotes in the order of their openers, each with its line in the original text. They are listed in lent slices; what
 // does not fit is counted, so refusals 7 and 8 are decided by the counts. The numbers of their records stand before a place `base` of the work
 // numbers, and the tags of the original text from there on.
-use crate::deep::QUOTES_MOST;
 use crate::deep::open_less;
 use crate::deep::open_more;
 use attribution_losses::loss::put_losses;
@@ -10,10 +9,12 @@ use quote_lines::search::line_of;
 use quote_tags::tag::next_tag;
 use quote_tags::tag::tag_at;
 use text::PostAt;
+use text::bounds::DEEP_MOST;
 use text::scan::next_bracket;
 ghost use mathlib.Core.Path.{_≡_};
-ghost use Prim.Native.Nat.{_≤_, _<_};
+ghost use Prim.Native.Nat.{_+_, _≤_, _<_};
 ghost use lib.ListN.{length, take, drop};
+ghost use Rattle.text.specs.Bounds.{outMost, deepMost};
 ghost use Rattle.quote_tags.specs.Tags.{NextBracket};
 ghost use Rattle.quote_lines.specs.Lines.{tags};
 ghost use Rattle.quote_lines.specs.Tables.{Table};
@@ -42,8 +43,8 @@ fn list_token(
     from: Listing,
     loss_bytes: &mut [u8],
 ) -> Listing
-    requires { ⌜ ((from .at .0 < length (now source)) × (length (now source) ≤ 16777216)) × (((NextBracket (now source) (from .at .0) (from .bracket .0) × (from .«open» ≤ 65)) × FewAt (from .at .0) (from .quote) (from .losses) (from .bytes)) × (Table (now post) (drop base (now numbers)) 0 count × (base ≤ length (now numbers)))) ⌝ }
-    ensures { λ r. ⌜ ((((from .at .0 < r .at .0) × (r .at .0 ≤ length (now (source .entry)))) × (NextBracket (now (source .entry)) (r .at .0) (r .bracket .0) × FewAt (r .at .0) (r .quote) (r .losses) (r .bytes))) × ListsToken (now (source .entry)) (tags 1 0 (now (post .entry))) (take base (now (numbers .entry))) (now («loss_bytes» .entry)) (from .at .0) (from .quote) (from .next) (from .losses) (from .bytes) (take base (now (numbers .exit))) (now («loss_bytes» .exit)) (r .at .0) (r .quote) (r .next) (r .losses) (r .bytes)) × ((drop base (now (numbers .exit)) ≡ drop base (now (numbers .entry))) × ((from .«open» ≤ 64 → DepthBehind (now (source .entry)) (from .at .0) (from .«open») (r .at .0) (r .«open»)) × ((64 < from .«open» → r .«open» ≡ from .«open») × (r .«open» ≤ 65)))) ⌝ }
+    requires { ⌜ ((from .at .0 < length (now source)) × (length (now source) ≤ outMost)) × (((NextBracket (now source) (from .at .0) (from .bracket .0) × (from .«open» ≤ deepMost + 1)) × FewAt (from .at .0) (from .quote) (from .losses) (from .bytes)) × (Table (now post) (drop base (now numbers)) 0 count × (base ≤ length (now numbers)))) ⌝ }
+    ensures { λ r. ⌜ ((((from .at .0 < r .at .0) × (r .at .0 ≤ length (now (source .entry)))) × (NextBracket (now (source .entry)) (r .at .0) (r .bracket .0) × FewAt (r .at .0) (r .quote) (r .losses) (r .bytes))) × ListsToken (now (source .entry)) (tags 1 0 (now (post .entry))) (take base (now (numbers .entry))) (now («loss_bytes» .entry)) (from .at .0) (from .quote) (from .next) (from .losses) (from .bytes) (take base (now (numbers .exit))) (now («loss_bytes» .exit)) (r .at .0) (r .quote) (r .next) (r .losses) (r .bytes)) × ((drop base (now (numbers .exit)) ≡ drop base (now (numbers .entry))) × ((from .«open» ≤ deepMost → DepthBehind (now (source .entry)) (from .at .0) (from .«open») (r .at .0) (r .«open»)) × ((deepMost < from .«open» → r .«open» ≡ from .«open») × (r .«open» ≤ deepMost + 1)))) ⌝ }
 {
     let at = from.at;
     let known = from.bracket;
@@ -121,7 +122,7 @@ pub fn list_losses(
     count: usize,
     loss_bytes: &mut [u8],
 ) -> Listed
-    requires { ⌜ (length (now source) ≤ 16777216) × (Table (now post) (drop base (now numbers)) 0 count × (base ≤ length (now numbers))) ⌝ }
+    requires { ⌜ (length (now source) ≤ outMost) × (Table (now post) (drop base (now numbers)) 0 count × (base ≤ length (now numbers))) ⌝ }
     ensures { λ r. ⌜ ListsLosses (now (source .entry)) (tags 1 0 (now (post .entry))) (take base (now (numbers .entry))) (now («loss_bytes» .entry)) (take base (now (numbers .exit))) (now («loss_bytes» .exit)) (r .losses) (r .bytes) × TooDeep (now (source .entry)) (r .deep) ⌝ }
 {
     let mut st = Listing {
@@ -142,6 +143,6 @@ pub fn list_losses(
     Listed {
         losses: st.losses,
         bytes: st.bytes,
-        deep: QUOTES_MOST < st.open,
+        deep: DEEP_MOST < st.open,
     }
 }

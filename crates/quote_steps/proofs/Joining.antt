@@ -4,15 +4,16 @@ use Prim.Native.Nat.{ℕ, suc, _+_, _-_, _≤_, _<_}
 use native.Mathlib.Omega.{arith}
 use mathlib.Core.List.{List, [], _∷_, _++_}
 use lib.ListN.{length, take, drop, length-append}
-use lib.Seq.{length-take-le, take-take, take-length, take-add, drop-at}
+use lib.Seq.{take-take, take-length}
 use Rattle.text.specs.Cells.{Cell, cells, part, written, cellsFrom}
 use Rattle.text.specs.Writes.{Appends}
-use Rattle.text.proofs.Writing.{cells-short}
+use Rattle.text.proofs.Areas.{area-length}
 use Rattle.attribution_reading.specs.Places.{bytes}
 use Rattle.attribution_parts.specs.Attribution.{caption}
 use Rattle.attribution_losses.specs.Captions.{nameTexts}
 use Rattle.attribution_losses.specs.Lists.{Puts}
 use Rattle.attribution.proofs.Fitting.{texts-within-caption}
+use Rattle.attribution.proofs.Speaking.{joined-there}
 use Rattle.quote_tags.specs.Tags.{openerSize, attributionOf}
 use Rattle.quote_tags.proofs.Tagging.{part-before, opener-within, attribution-none, attribution-at}
 use Rattle.quote_blocks.specs.Quotes.{captionLine, quoteBlock}
@@ -42,18 +43,9 @@ module _ (s : List ℕ) (t k : ℕ) (h : t ≤ length s) (ek : k ≡ openerSize 
 
 -- ---- what has been put behind it
 
-module _ {v v' : List ℕ} {end j : ℕ} {t : List ℕ} (p : Puts v end v' j t) (he : end ≤ length v) where
-  pub joined-there : j ≤ length v → take (j - end) (drop end v') ≡ t
-  joined-there fit =
-      let z : end + (j - end) ≡ j = omega (arith, p .end) in
-      let l : length (take end v) ≡ end = length-take-le end v he in
-      let l' : length (take end v') ≡ end = length-take-le end v' (omega (arith, p .size)) in
-      let q : take end v' ++ take (j - end) (drop end v') ≡ take end v ++ t = sym (take-add end (j - end) v') ∙ ap (λ (k : ℕ). take k v') z ∙ p .text fit in
-      sym (drop-at (take end v') (take (j - end) (drop end v')) end l') ∙ ap (drop end) q ∙ drop-at (take end v) t end l
-
-  -- what stands before it is kept
-  pub front-kept : (a n : ℕ) → a + n ≤ end → take n (drop a v') ≡ take n (drop a v)
-  front-kept a n h = sym (part-before a n end v' h) ∙ ap (λ (l : List ℕ). take n (drop a l)) (p .keeps) ∙ part-before a n end v h
+-- what stands before it is kept
+front-kept : {v v' : List ℕ} {end j : ℕ} {t : List ℕ} → Puts v end v' j t → (a n : ℕ) → a + n ≤ end → take n (drop a v') ≡ take n (drop a v)
+front-kept {v} {v'} {end} p a n h = sym (part-before a n end v' h) ∙ ap (λ (l : List ℕ). take n (drop a l)) (p .keeps) ∙ part-before a n end v h
 
 -- ---- the block
 
@@ -71,7 +63,7 @@ caption-inside (b ∷ s) x = let l = length-from 0 0 (b ∷ s) in simp length-ap
 module _ (v : List ℕ) {v' : List ℕ} (e end tag a b : ℕ) {j : ℕ} (ha : a ≤ b) (hb : b ≤ e) (he : e ≤ end) (hv : end ≤ length v)
     (r : take (b - a) (drop a (take e v)) ≡ attributionOf (drop tag (take e v))) (p : Puts v end v' j (nameTexts (bytes v a (b - a)))) where
   kept : take (b - a) (drop a v') ≡ take (b - a) (drop a v)
-  kept = front-kept p hv a (b - a) (omega arith)
+  kept = front-kept p a (b - a) (omega arith)
 
   here : take (b - a) (drop a v) ≡ attributionOf (drop tag (take e v))
   here = sym (part-before a (b - a) e v (omega arith)) ∙ r
@@ -80,9 +72,9 @@ module _ (v : List ℕ) {v' : List ℕ} (e end tag a b : ℕ) {j : ℕ} (ha : a 
   unfolding bytes
   joined-is fit = joined-there p hv fit ∙ ap nameTexts (sym kept)
 
-  pub block-joined : (ns : List ℕ) (begin to : ℕ) → to ≤ end → {w w' : List Cell} {n : ℕ}
-      → Appends w 0 w' n (quoteBlock (caption (take (b - a) (drop a v'))) (part begin to (cells v' ns)))
-      → Appends w 0 w' n (quoteBlock (caption (attributionOf (drop tag (take e v)))) (part begin to (cells v ns)))
+  pub block-joined : (ns : List ℕ) (begin to : ℕ) → to ≤ end → {w w' : List Cell} {at n : ℕ}
+      → Appends w at w' n (quoteBlock (caption (take (b - a) (drop a v'))) (part begin to (cells v' ns)))
+      → Appends w at w' n (quoteBlock (caption (attributionOf (drop tag (take e v)))) (part begin to (cells v ns)))
   unfolding part
   block-joined ns begin to h q =
       let x : attributionOf (drop tag (take e v)) ≡ take (b - a) (drop a v') = sym here ∙ sym kept in
@@ -90,13 +82,13 @@ module _ (v : List ℕ) {v' : List ℕ} (e end tag a b : ℕ) {j : ℕ} (ha : a 
       let y : take to (cells v ns) ≡ take to (cells v' ns) = sym (cells-front to v v' ns f) in
       rw (x, y) q
 
-  -- they do not fit, so neither does the caption
-  pub block-unjoined : (x : List Cell) (os ps : List ℕ) (far : ℕ) → length v < j → end + length os ≤ length v → length os < far
-      → Appends (cells os ps) 0 (cells os ps) far (quoteBlock (caption (attributionOf (drop tag (take e v)))) x)
+  -- they do not fit, so neither does the caption, in the area from `place` up to `end`
+  pub area-unjoined : (x : List Cell) (ns : List ℕ) (place far : ℕ) → length v < j → end + (end - place) ≤ length v → end ≤ length ns → place ≤ end → end < far
+      → Appends (take end (cells v ns)) place (take end (cells v ns)) far (quoteBlock (caption (attributionOf (drop tag (take e v)))) x)
   unfolding bytes
-  block-unjoined x os ps far lt room up =
+  area-unjoined x ns place far lt room hn hp up =
       let t : length (nameTexts (take (b - a) (drop a v))) ≡ length (nameTexts (attributionOf (drop tag (take e v)))) = ap (λ (l : List ℕ). length (nameTexts l)) here in
       let c = texts-within-caption (attributionOf (drop tag (take e v))) in
       let i = caption-inside (caption (attributionOf (drop tag (take e v)))) x in
-      let o = cells-short os ps in
-      past-end (cells os ps) 0 far _ (omega (arith, p .end, t, c, i, o)) (omega arith) (omega arith)
+      let o = area-length v ns end hv hn in
+      past-end (take end (cells v ns)) place far _ (omega (arith, p .end, t, c, i, o, lt, room, hp)) (omega (arith, o, up)) (omega (arith, hp, up))

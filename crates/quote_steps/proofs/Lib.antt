@@ -1,3 +1,4 @@
 pub mod Texts
 pub mod Passing
 pub mod Joining
+pub mod Within

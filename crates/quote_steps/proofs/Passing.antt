@@ -10,6 +10,7 @@ use lib.Dec.{leb}
 use borrow.Author.Tests.{leb-false}
 use lib.ListN.{length, take, drop, getD, set, length-append, length-map}
 use lib.Seq.{length-take-le, getD-take, take-take, take-at, drop-at, getD-set-same, getD-set-other}
+use Rattle.text.specs.Bounds.{deepMost}
 use Rattle.text.specs.Cells.{Cell, cells, bytes, part, feed}
 use Rattle.text.specs.Writes.{Holds, Appends, AppendsIn}
 use Rattle.text.proofs.Writing.{holds-fits, cells-le, cells-short, cells-at, part-cons}
@@ -21,7 +22,12 @@ use Rattle.quote_tags.specs.Tags.{attributionOf, openerSize, closerSize}
 use Rattle.quote_tags.proofs.Plain.{PlainRun}
 use Rattle.quote_blocks.specs.Quotes.{Token, text, opens, closes, tokens, Quote, State, start, opening, held, total, close, closed, step, finish, run, quotes, finishNeed, runNeed, quotesNeed, quoteBlock, tooDeepFrom, tooDeep}
 use Rattle.quote_steps.proofs.Texts.{read-run, more-is, more-opened, run-texts, need-texts, texts-needed, deep-texts}
-use Rattle.quote_steps.specs.Passes.{texts, more, Stood, Stands, Closes, ClosesIn, Takes, TakesOne, Leaves, ClosesLast, ClosesAll, Reached, Runs}
+use Rattle.quote_steps.specs.Passes.{texts, more, Stood, Stands, Closes, ClosesIn, Takes, TakesOne, Leaves, ClosesLast, ClosesAll, Finishing}
+use Rattle.quote_steps.specs.declared.close.Areas.{Areas}
+use Rattle.quote_steps.specs.declared.pass.Reached.{Reached}
+use Rattle.quote_steps.specs.declared.pass.Passed.{Passed}
+use Rattle.quote_steps.specs.declared.pass.Passed.the-variants.{Done, Full}
+use Rattle.attribution_parts.specs.Attribution.{caption}
 
 -- ---- an area
 
@@ -57,58 +63,6 @@ module _ (v : List Cell) (to : ℕ) (p c : List Cell) (h : Holds v to (p ++ c)) 
       let f = fits in
       let n : to ≡ length (p ++ c) = h .end f in
       sym (take-take (length p) to v (omega arith)) ∙ ap (take (length p)) (h .text f) ∙ take-at p c (length p) refl
-
-holds-all : {v v' t : List Cell} {n : ℕ} → Appends v 0 v' n t → Holds v' n t
-holds-all {v} a = a .step [] (record { end = λ h. refl; text = λ h. refl; full = λ h. omega arith })
-
--- ---- closing: the block has been built in other slices w, from the cells of v from begin up to to
-
-module _ (v : List Cell) (begin to : ℕ) (w₀ w : List Cell) (n : ℕ) (le : to ≤ length v) (block : List Cell → List Cell) (a : Appends w₀ 0 w n (block (part begin to v))) where
-  pub closes-done : (v' : List Cell) (r : ℕ) → n ≤ length w → Appends v begin v' r (part 0 n w) → Closes v begin to v' r block
-  unfolding part
-  closes-done v' r fit b = record {
-    step = λ p c h e.
-        let t = holds-all a .text (holds-fits w n _ (holds-all a) fit) in
-        rw (sym (t ∙ ap block (holds-part v to p c h le begin e))) (b .step p (holds-cut v to p c h le begin e));
-    keeps = b .keeps;
-  }
-
-  -- the block does not fit
-  pub closes-full : (r : ℕ) → length v ≤ begin + length w → length w < n → length v < r → Closes v begin to v r block
-  closes-full r room lt far = record {
-    step = λ p c h e.
-        let q : block (part begin to v) ≡ block c = ap block (holds-part v to p c h le begin e) in
-        let k = holds-all a in
-        let l = length-append p (block c) in
-        let m : length (block (part begin to v)) ≡ length (block c) = ap length q in
-        let no-room : length (p ++ block c) ≤ length v → ⊥ = λ f. (let g = k .end (omega arith) in omega arith) in
-        record { end = λ f. absurd (no-room f); text = λ f. absurd (no-room f); full = λ f. far };
-    keeps = refl;
-  }
-
--- the same of slices; behind the area the bytes may have changed
-module _ (bs bs₁ ns os ps os' ps' : List ℕ) (begin to end n : ℕ) (block : List Cell → List Cell) (a : Appends (cells os ps) 0 (cells os' ps') n (block (part begin to (cells bs ns))))
-    (same : take end bs₁ ≡ take end bs) (ht : to ≤ end) (hb : end ≤ length bs) (hn : end ≤ length ns) (ho : length os' ≤ length ps') where
-  out-length : length (cells os' ps') ≡ length os'
-  out-length = let x = cells-short os' ps' in let y = cells-le os' ps' (length os') (omega arith) ho in omega arith
-
-  from-area : Appends (cells os ps) 0 (cells os' ps') n (block (part begin to (take end (cells bs ns))))
-  unfolding part
-  from-area = rw (take-take to end (cells bs ns) ht) a
-
-  still : take end (cells bs₁ ns) ≡ take end (cells bs ns)
-  still = cells-front end bs bs₁ ns same
-
-  pub block-closes : {bs' ns' : List ℕ} {r : ℕ} → n ≤ length os' → AppendsIn bs₁ ns end begin bs' ns' r (part 0 n (cells os' ps')) → ClosesIn bs ns end begin to bs' ns' r block
-  block-closes {bs'} {ns'} {r} fit b =
-      let l = out-length in let k = area-length bs ns end hb hn in
-      let q : Appends (take end (cells bs ns)) begin (take end (cells bs' ns')) r (part 0 n (cells os' ps')) = rw (sym still) (b .appends) in
-      record { closes = closes-done (take end (cells bs ns)) begin to (cells os ps) (cells os' ps') n (omega arith) block from-area _ _ (omega arith) q }
-
-  pub block-closes-full : (r : ℕ) → length os' < n → end ≤ begin + length os' → end < r → ClosesIn bs ns end begin to bs₁ ns r block
-  block-closes-full r lt room far =
-      let l = out-length in let k = area-length bs ns end hb hn in
-      record { closes = rw still (closes-full (take end (cells bs ns)) begin to (cells os ps) (cells os' ps') n (omega arith) block from-area r (omega arith) (omega arith) (omega arith)) }
 
 -- ---- where the open quotes stand
 
@@ -329,12 +283,13 @@ module _ (caption : List ℕ → List ℕ) where
       by (q ∷ qs) h = let z : suc (length qs) - 1 ≡ length qs = omega arith in rw (sym z) h
 
   module _ (e end : ℕ) (P : List Cell) where
-    -- what is left of the text, taken from the state that the area holds, gives all of it
-    pub record Running (v : List Cell) (to : ℕ) (starts tags : List ℕ) (depth i : ℕ) : Type 0 where
+    -- what is left of the text, taken from the state that the area holds, gives all of it, where the contents had `seen` cells at most
+    pub record Running (v : List Cell) (to : ℕ) (starts tags : List ℕ) (depth i seen : ℕ) : Type 0 where
       pub state : State
       pub stands : Stands e P v to starts tags depth state
       pub same : quotes caption (take e P) ≡ run caption (tokens 0 (drop i (take e P))) state
-      pub need : max (end - length P) (quotesNeed caption (take e P)) ≡ max (end - length P) (runNeed caption (tokens 0 (drop i (take e P))) state)
+      pub need : quotesNeed caption (take e P) ≡ max seen (runNeed caption (tokens 0 (drop i (take e P))) state)
+      pub short : length P + seen ≤ end
       pub deep : tooDeepFrom depth (tokens 0 (drop i (take e P))) ≡ false
 
     -- how much the area holds
@@ -346,9 +301,9 @@ module _ (caption : List ℕ → List ℕ) where
         let c = opening-length (s .opened) in
         omega arith
 
-    pub running-start : (v : List Cell) (starts tags : List ℕ) → take (length P) v ≡ P → length P ≤ length v → tooDeep (take e P) ≡ false → Running v (length P) starts tags 0 0
+    pub running-start : (v : List Cell) (starts tags : List ℕ) → take (length P) v ≡ P → length P ≤ length v → tooDeep (take e P) ≡ false → length P ≤ end → Running v (length P) starts tags 0 0 0
     unfolding quotes quotesNeed tooDeep Stood opening
-    running-start v starts tags h le z = record {
+    running-start v starts tags h le z f = record {
       state = start;
       stands = record {
         text = rw append-nil (record { end = λ _. refl; text = λ _. h; full = λ lt. absurd (omega arith) });
@@ -356,13 +311,14 @@ module _ (caption : List ℕ → List ℕ) where
         stood = tt;
       };
       same = refl;
-      need = refl;
+      need = omega arith;
+      short = omega (arith, f);
       deep = z;
     }
 
-    module _ {v : List Cell} {to : ℕ} {starts tags : List ℕ} {d i : ℕ} (w : Running v to starts tags d i) (size : length v ≡ end) (fit : to ≤ end) where
-      small : total (w .state) ≤ end - length P
-      small = let a = holds-total v to starts tags d (w .state) (w .stands) in let b = w .stands .text .end (holds-fits v to _ (w .stands .text) (omega arith)) in omega arith
+    module _ {v : List Cell} {to : ℕ} {starts tags : List ℕ} {d i seen : ℕ} (w : Running v to starts tags d i seen) (size : length v ≡ end) (fit : to ≤ end) where
+      total-is : to ≡ length P + total (w .state)
+      total-is = let a = holds-total v to starts tags d (w .state) (w .stands) in let b = w .stands .text .end (holds-fits v to _ (w .stands .text) (omega arith)) in omega arith
 
       pub running-room : {k : ℕ} (s : List ℕ) → bytes (take e P) ≡ s → k ≡ openerSize (drop i s) → (k ≡ 0 → ⊥) → d < 64
       unfolding tooDeepFrom
@@ -370,7 +326,7 @@ module _ (caption : List ℕ → List ℕ) where
           let z : (leb 64 d || _) ≡ false = rw (read-opener (take e P) s eb i ek n) at (w .deep) in
           leb-false 64 d (or-false (leb 64 d) _ z .0)
 
-      pub running-end : length (take e P) ≤ i → Reached caption e (length P) end P v to starts tags d
+      pub running-end : length (take e P) ≤ i → Finishing caption e end P v to starts tags d seen
       unfolding run runNeed
       running-end le =
           let z : tokens 0 (drop i (take e P)) ≡ [] = read-end (take e P) (bytes (take e P)) refl i (rw (length-map (take e P) (λ (c : Cell). c .byte)) le) in
@@ -380,6 +336,7 @@ module _ (caption : List ℕ → List ℕ) where
             stands = w .stands;
             same = rw z at (w .same);
             need = rw z at (w .need);
+            short = w .short;
           }
 
       module _ {v' : List Cell} {to' : ℕ} {starts' tags' : List ℕ} {d' i' : ℕ} (t : Takes caption e P v to starts tags d i v' to' starts' tags' d' i' (w .state)) (size' : length v' ≡ end) where
@@ -389,24 +346,26 @@ module _ (caption : List ℕ → List ℕ) where
         stepped : State
         stepped = step caption (t .token) (w .state)
 
-        on-need : max (end - length P) (quotesNeed caption (take e P)) ≡ max (end - length P) (runNeed caption (texts (t .behind) rest) stepped)
+        -- only what comes behind text counts
+        on-texts : runNeed caption (texts (t .behind) rest) stepped ≡ runNeed caption rest (more stepped (t .behind))
+        on-texts =
+            let a = need-texts caption (total (more stepped (t .behind))) (t .behind) rest stepped (omega arith) in
+            let b = texts-needed caption (t .behind) rest stepped (total-needed rest) in
+            let k = total-needed rest (more stepped (t .behind)) in
+            omega (arith, a, b, k)
+
+        on-need : quotesNeed caption (take e P) ≡ max (max seen (to - length P)) (runNeed caption rest (more stepped (t .behind)))
         unfolding runNeed rest stepped
-        on-need = let n = rw (t .reads) at (w .need) in let z = small in omega (arith, n, z)
+        on-need = let n = rw (t .reads) at (w .need) in let z = total-is in let b = on-texts in omega (arith, n, z, b)
 
-        on-small : to' ≤ end → total (more stepped (t .behind)) ≤ end - length P
-        unfolding stepped
-        on-small le =
-            let a = holds-total v' to' starts' tags' d' _ (t .stands) in
-            let b = t .stands .text .end (holds-fits v' to' _ (t .stands .text) (omega arith)) in
-            omega arith
-
-        pub running-on : to' ≤ end → Running v' to' starts' tags' d' i'
+        pub running-on : to' ≤ end → Running v' to' starts' tags' d' i' (max seen (to - length P))
         unfolding run rest stepped
         running-on le = record {
           state = more (step caption (t .token) (w .state)) (t .behind);
           stands = t .stands;
           same = rw (t .reads) at (w .same) ∙ run-texts caption (t .behind) (tokens 0 (drop i' (take e P))) (step caption (t .token) (w .state));
-          need = on-need ∙ need-texts caption (end - length P) (t .behind) (tokens 0 (drop i' (take e P))) (step caption (t .token) (w .state)) (on-small le);
+          need = on-need;
+          short = let k = w .short in omega (arith, k, fit);
           deep = rw (t .stands .deep, more-opened (t .behind) (step caption (t .token) (w .state)))
               (sym (deep-texts _ (t .behind) (tokens 0 (drop i' (take e P)))) ∙ deep-step (t .token) _ (w .state) (rw (t .reads, w .stands .deep) at (w .deep)));
         }
@@ -417,49 +376,52 @@ module _ (caption : List ℕ → List ℕ) where
             let s' : State = more (step caption (t .token) (w .state)) (t .behind) in
             let a = holds-total v' to' starts' tags' d' s' (t .stands) in
             let over : length P + total s' ≤ end → ⊥ = λ le. (let q = t .stands .text .end (omega arith) in omega arith) in
-            let b = texts-needed caption (t .behind) (tokens 0 (drop i' (take e P))) (step caption (t .token) (w .state)) (total-needed (tokens 0 (drop i' (take e P)))) in
+            let b = total-needed (tokens 0 (drop i' (take e P))) s' in
             let n = on-need in
             elim (decLe (length P + total s') end) [ yes p ↦ absurd (over p) | no p ↦ omega (arith, n, b, p) ]
 
     -- ---- closing what is open at the end
 
     -- closing what the area holds gives what closing all of it does
-    pub record Closing (now₀ : List Cell) (qs₀ : List Quote) (v : List Cell) (to : ℕ) (starts tags : List ℕ) (depth : ℕ) : Type 0 where
+    pub record Closing (now₀ : List Cell) (qs₀ : List Quote) (seen₀ : ℕ) (v : List Cell) (to : ℕ) (starts tags : List ℕ) (depth seen : ℕ) : Type 0 where
       pub now : List Cell
       pub opened : List Quote
       pub stands : Stands e P v to starts tags depth (record { now = now; opened = opened })
       pub same : finish caption now₀ qs₀ ≡ finish caption now opened
-      pub need : max (end - length P) (finishNeed caption now₀ qs₀) ≡ max (end - length P) (finishNeed caption now opened)
+      pub need : max seen₀ (finishNeed caption now₀ qs₀) ≡ max seen (finishNeed caption now opened)
+      pub short : length P + seen ≤ end
 
-    pub closing-start : {v : List Cell} {to : ℕ} {starts tags : List ℕ} {d : ℕ} (now : List Cell) (qs : List Quote) → Stands e P v to starts tags d (record { now = now; opened = qs }) → Closing now qs v to starts tags d
-    closing-start now qs w = record { now = now; opened = qs; stands = w; same = refl; need = refl }
+    pub closing-start : {v : List Cell} {to : ℕ} {starts tags : List ℕ} {d seen : ℕ} (now : List Cell) (qs : List Quote) → length P + seen ≤ end → Stands e P v to starts tags d (record { now = now; opened = qs })
+        → Closing now qs seen v to starts tags d seen
+    closing-start now qs f w = record { now = now; opened = qs; stands = w; same = refl; need = refl; short = f }
 
-    module _ {now₀ : List Cell} {qs₀ : List Quote} {v : List Cell} {to : ℕ} {starts tags : List ℕ} {d : ℕ} (w : Closing now₀ qs₀ v to starts tags d) (size : length v ≡ end) (fit : to ≤ end) where
+    module _ {now₀ : List Cell} {qs₀ : List Quote} {seen₀ : ℕ} {v : List Cell} {to : ℕ} {starts tags : List ℕ} {d seen : ℕ} (w : Closing now₀ qs₀ seen₀ v to starts tags d seen) (size : length v ≡ end) (fit : to ≤ end) where
       held-small : (length P + (held (w .opened) + length (w .now)) ≤ end) × (to ≡ length P + (held (w .opened) + length (w .now)))
       unfolding total
       held-small = let a = holds-total v to starts tags d _ (w .stands) in let f = holds-fits v to _ (w .stands .text) (omega arith) in let b = w .stands .text .end f in (omega arith, omega arith)
 
-      pub closing-end : d ≡ 0 → Leaves (length P) end v to (finish caption now₀ qs₀) (finishNeed caption now₀ qs₀)
+      pub closing-end : d ≡ 0 → (n : ℕ) → n ≡ max seen (to - length P)
+          → ((length P + max seen₀ (finishNeed caption now₀ qs₀) ≤ end) × (n ≡ max seen₀ (finishNeed caption now₀ qs₀))) × ((to ≡ length P + length (finish caption now₀ qs₀)) × (part (length P) to v ≡ finish caption now₀ qs₀))
       unfolding finish finishNeed held opening
-      closing-end z = by (w .opened) (sym (w .stands .deep) ∙ z) (w .stands) (w .same) (w .need) held-small
+      closing-end z n en = by (w .opened) (sym (w .stands .deep) ∙ z) (w .stands) (w .same) (w .need) held-small
         where
           by : (qs : List Quote) → length qs ≡ 0 → Stands e P v to starts tags d (record { now = w .now; opened = qs }) → finish caption now₀ qs₀ ≡ finish caption (w .now) qs
-              → max (end - length P) (finishNeed caption now₀ qs₀) ≡ max (end - length P) (finishNeed caption (w .now) qs)
+              → max seen₀ (finishNeed caption now₀ qs₀) ≡ max seen (finishNeed caption (w .now) qs)
               → (length P + (held qs + length (w .now)) ≤ end) × (to ≡ length P + (held qs + length (w .now)))
-              → Leaves (length P) end v to (finish caption now₀ qs₀) (finishNeed caption now₀ qs₀)
-          by (q ∷ qs) l h r n f = absurd (omega arith)
-          by [] l h r n f = record {
-            fits = λ le. (let q = ap length r in omega (arith, f .1, q), holds-part v to P (w .now) (h .text) (omega arith) (length P) refl ∙ sym r);
-            full = λ lt. absurd (omega (arith, n, f .0, lt));
-          }
+              → ((length P + max seen₀ (finishNeed caption now₀ qs₀) ≤ end) × (n ≡ max seen₀ (finishNeed caption now₀ qs₀))) × ((to ≡ length P + length (finish caption now₀ qs₀)) × (part (length P) to v ≡ finish caption now₀ qs₀))
+          by (q ∷ qs) l h r k f = absurd (omega arith)
+          by [] l h r k f =
+              let q = ap length r in
+              let s = w .short in
+              ((omega (arith, k, f .0, s), omega (arith, en, k, f .1)), (omega (arith, f .1, q), holds-part v to P (w .now) (h .text) (omega arith) (length P) refl ∙ sym r))
 
       module _ {v' : List Cell} {to' : ℕ} (pos : d ≡ 0 → ⊥)
           (cl : (now : List Cell) (q : Quote) (qs : List Quote) → Stands e P v to starts tags d (record { now = now; opened = q ∷ qs })
           → Stands e P v' to' starts tags (d - 1) (record { now = close caption q now; opened = qs })) (size' : length v' ≡ end) where
         closed-one : (qs : List Quote) → Stands e P v to starts tags d (record { now = w .now; opened = qs }) → finish caption now₀ qs₀ ≡ finish caption (w .now) qs
-            → max (end - length P) (finishNeed caption now₀ qs₀) ≡ max (end - length P) (finishNeed caption (w .now) qs)
-            → length P + (held qs + length (w .now)) ≤ end
-            → Closing now₀ qs₀ v' to' starts tags (d - 1)
+            → max seen₀ (finishNeed caption now₀ qs₀) ≡ max seen (finishNeed caption (w .now) qs)
+            → (length P + (held qs + length (w .now)) ≤ end) × (to ≡ length P + (held qs + length (w .now)))
+            → Closing now₀ qs₀ seen₀ v' to' starts tags (d - 1) (max seen (to - length P))
         unfolding finish finishNeed
         closed-one [] h r n f = absurd (pos (h .deep))
         closed-one (q ∷ qs) h r n f = record {
@@ -467,118 +429,108 @@ module _ (caption : List ℕ → List ℕ) where
           opened = qs;
           stands = cl (w .now) q qs h;
           same = r;
-          need = omega (arith, n, f);
+          need = omega (arith, n, f .1);
+          short = let k = w .short in omega (arith, k, fit);
         }
 
-        pub closing-on : Closing now₀ qs₀ v' to' starts tags (d - 1)
-        closing-on = closed-one (w .opened) (w .stands) (w .same) (w .need) (held-small .0)
+        pub closing-on : Closing now₀ qs₀ seen₀ v' to' starts tags (d - 1) (max seen (to - length P))
+        closing-on = closed-one (w .opened) (w .stands) (w .same) (w .need) held-small
 
-        pub closing-full : end < to' → Leaves (length P) end v' to' (finish caption now₀ qs₀) (finishNeed caption now₀ qs₀)
+        pub closing-full : end < to' → end < length P + max seen₀ (finishNeed caption now₀ qs₀)
         unfolding total
         closing-full lt =
             let k = closing-on in
             let a = holds-total v' to' starts tags (d - 1) _ (k .stands) in
             let b = finish-needs (k .now) (k .opened) in
-            let over : length P + (held (k .opened) + length (k .now)) ≤ end → ⊥ = λ le. (let q = k .stands .text .end (omega arith) in omega arith) in
-            record {
-              fits = λ le. absurd (over (omega (arith, k .need, b, le)));
-              full = λ _. lt;
-            }
+            elim (decLe (length P + (held (k .opened) + length (k .now))) end) [ yes le ↦ (let q = k .stands .text .end (omega arith) in absurd (omega arith)) | no le ↦ omega (arith, k .need, b, le) ]
 
 -- ---- the loops
 
-module _ (caption : List ℕ → List ℕ) (e base end : ℕ) (v₀ : List Cell) (to₀ : ℕ) (starts tags : List ℕ) (d₀ : ℕ) where
+module _ (m : Areas) (bs₀ ns₀ starts tags : List ℕ) (r : Reached) where
   -- of all that may be open at the start
-  pub record ClosingAll (bs ns : List ℕ) (to d : ℕ) : Type 0 where
-    pub each : (P now : List Cell) (qs : List Quote) → length P ≡ base → Stands e P v₀ to₀ starts tags d₀ (record { now = now; opened = qs }) → Closing caption e end P now qs (take end (cells bs ns)) to starts tags d
+  pub record ClosingAll (bs ns : List ℕ) (to d seen : ℕ) : Type 0 where
+    pub each : (P now : List Cell) (qs : List Quote) → length P ≡ m .base → m .base + r .seen ≤ m .end → Stands (m .text) P (take (m .end) (cells bs₀ ns₀)) (r .to .0) starts tags (r .depth) (record { now = now; opened = qs })
+        → Closing caption (m .text) (m .end) P now qs (r .seen) (take (m .end) (cells bs ns)) to starts tags d seen
 
-  module _ {bs ns : List ℕ} {to d : ℕ} (w : ClosingAll bs ns to d) (hb : end ≤ length bs) (hn : end ≤ length ns) (fit : to ≤ end) where
-    pub all-end : d ≡ 0 → ClosesAll caption e base end v₀ to₀ starts tags d₀ (take end (cells bs ns)) to
-    all-end z P now qs eP st =
-        subst (λ (k : ℕ). Leaves k end (take end (cells bs ns)) to (finish caption now qs) (finishNeed caption now qs)) eP
-        (closing-end caption e end P (w .each P now qs eP st) (area-length bs ns end hb hn) fit z)
+  pub all-start : ClosingAll bs₀ ns₀ (r .to .0) (r .depth) (r .seen)
+  all-start = record { each = λ P now qs eP f st. closing-start caption (m .text) (m .end) P now qs (omega (arith, eP, f)) st }
 
-    module _ {bs' ns' : List ℕ} {to' : ℕ} (pos : 0 < d) (cl : ClosesLast caption e base end bs ns to starts tags d bs' ns' to') (lb : length bs' ≡ length bs) (ln : length ns' ≡ length ns) where
-      pub all-on : ClosingAll bs' ns' to' (d - 1)
-      all-on = record {
-        each = λ P now qs eP st.
-            closing-on caption e end P (w .each P now qs eP st) (area-length bs ns end hb hn) fit (λ z. omega arith) (λ now' q qs' h. cl .each P now' q qs' eP h) (area-length bs' ns' end (omega arith) (omega arith));
+  module _ {bs ns : List ℕ} {to d seen : ℕ} (w : ClosingAll bs ns to d seen) (hb : m .end ≤ length bs) (hn : m .end ≤ length ns) (fit : to ≤ m .end) where
+    pub all-end : d ≡ 0 → (n : ℕ) → n ≡ max seen (to - m .base) → ClosesAll m bs₀ ns₀ starts tags r bs ns (Done (record { 0 = to }) n)
+    all-end z n en P now qs eP f st =
+        subst (λ (k : ℕ). Leaves k (m .end) (take (m .end) (cells bs ns)) (finish caption now qs) (max (r .seen) (finishNeed caption now qs)) (Done (record { 0 = to }) n)) eP
+        (closing-end caption (m .text) (m .end) P (w .each P now qs eP f st) (area-length bs ns (m .end) hb hn) fit z n (rw eP en))
+
+    module _ {bs' ns' : List ℕ} {to' : ℕ} (pos : 0 < d) (cl : ClosesLast caption (m .text) (m .base) (m .end) bs ns to starts tags d bs' ns' to') (lb : length bs' ≡ length bs) (ln : length ns' ≡ length ns) where
+      pub all-on : (n : ℕ) → n ≡ max seen (to - m .base) → ClosingAll bs' ns' to' (d - 1) n
+      all-on n en = record {
+        each = λ P now qs eP f st.
+            rw (en, ← eP) (closing-on caption (m .text) (m .end) P (w .each P now qs eP f st) (area-length bs ns (m .end) hb hn) fit (λ z. omega arith) (λ now' q qs' h. cl .each P now' q qs' eP h)
+            (area-length bs' ns' (m .end) (omega arith) (omega arith)));
       }
 
-      pub all-full : end < to' → ClosesAll caption e base end v₀ to₀ starts tags d₀ (take end (cells bs' ns')) to'
-      all-full lt P now qs eP st =
-          subst (λ (k : ℕ). Leaves k end (take end (cells bs' ns')) to' (finish caption now qs) (finishNeed caption now qs)) eP
-          (closing-full caption e end P (w .each P now qs eP st) (area-length bs ns end hb hn) fit (λ z. omega arith) (λ now' q qs' h. cl .each P now' q qs' eP h) (area-length bs' ns' end (omega arith) (omega arith)) lt)
+      pub all-full : m .end < to' → ClosesAll m bs₀ ns₀ starts tags r bs' ns' Full
+      all-full lt P now qs eP f st =
+          subst (λ (k : ℕ). m .end < k + max (r .seen) (finishNeed caption now qs)) eP
+          (closing-full caption (m .text) (m .end) P (w .each P now qs eP f st) (area-length bs ns (m .end) hb hn) fit (λ z. omega arith) (λ now' q qs' h. cl .each P now' q qs' eP h)
+          (area-length bs' ns' (m .end) (omega arith) (omega arith)) lt)
 
-module _ (caption : List ℕ → List ℕ) (e base end : ℕ) (bs₀ ns₀ : List ℕ) (he : e ≤ base) (hp : base ≤ end) (hb₀ : end ≤ length bs₀) (hn₀ : end ≤ length ns₀) where
-  before-length : length (take base (cells bs₀ ns₀)) ≡ base
-  before-length = length-take-le base (cells bs₀ ns₀) (cells-le bs₀ ns₀ base (omega arith) (omega arith))
+module _ (m : Areas) (bs₀ ns₀ : List ℕ) (he : m .text ≤ m .base) (hp : m .base ≤ m .end) (hb₀ : m .end ≤ length bs₀) (hn₀ : m .end ≤ length ns₀) where
+  abbrev P₀ : List Cell
+  P₀ = take (m .base) (cells bs₀ ns₀)
+
+  before-length : length P₀ ≡ m .base
+  before-length = length-take-le (m .base) (cells bs₀ ns₀) (cells-le bs₀ ns₀ (m .base) (omega arith) (omega arith))
 
   -- the run, in slices
-  pub record RunningIn (bs ns : List ℕ) (to : ℕ) (starts tags : List ℕ) (d i : ℕ) : Type 0 where
-    pub runs : Running caption e end (take base (cells bs₀ ns₀)) (take end (cells bs ns)) to starts tags d i
+  pub record RunningIn (bs ns : List ℕ) (to : ℕ) (starts tags : List ℕ) (d i seen : ℕ) : Type 0 where
+    pub runs : Running caption (m .text) (m .end) P₀ (take (m .end) (cells bs ns)) to starts tags d i seen
 
-  pub run-start : (starts tags : List ℕ) → tooDeep (take e (cells bs₀ ns₀)) ≡ false → RunningIn bs₀ ns₀ base starts tags 0 0
+  pub run-start : (starts tags : List ℕ) → tooDeep (take (m .text) (cells bs₀ ns₀)) ≡ false → RunningIn bs₀ ns₀ (m .base) starts tags 0 0 0
   run-start starts tags z =
       let l = before-length in
-      let a = area-length bs₀ ns₀ end hb₀ hn₀ in
+      let a = area-length bs₀ ns₀ (m .end) hb₀ hn₀ in
       record {
-        runs = subst (λ (k : ℕ). Running caption e end (take base (cells bs₀ ns₀)) (take end (cells bs₀ ns₀)) k starts tags 0 0) l
-            (running-start caption e end (take base (cells bs₀ ns₀)) (take end (cells bs₀ ns₀)) starts tags (rw l (take-take base end (cells bs₀ ns₀) hp)) (omega arith) (rw (take-take e base (cells bs₀ ns₀) he) z));
+        runs = subst (λ (k : ℕ). Running caption (m .text) (m .end) P₀ (take (m .end) (cells bs₀ ns₀)) k starts tags 0 0 0) l
+            (running-start caption (m .text) (m .end) P₀ (take (m .end) (cells bs₀ ns₀)) starts tags (rw l (take-take (m .base) (m .end) (cells bs₀ ns₀) hp)) (omega arith) (rw (take-take (m .text) (m .base) (cells bs₀ ns₀) he) z) (omega arith));
       }
 
-  module _ {bs ns : List ℕ} {to : ℕ} {starts tags : List ℕ} {d i : ℕ} (w : RunningIn bs ns to starts tags d i) (hb : end ≤ length bs) (hn : end ≤ length ns) (fit : to ≤ end) where
-    pub run-room : (openerSize (drop i (take e bs)) ≡ 0 → ⊥) → d < 64
+  module _ {bs ns : List ℕ} {to : ℕ} {starts tags : List ℕ} {d i seen : ℕ} (w : RunningIn bs ns to starts tags d i seen) (hb : m .end ≤ length bs) (hn : m .end ≤ length ns) (fit : to ≤ m .end) where
+    pub run-room : (openerSize (drop i (take (m .text) bs)) ≡ 0 → ⊥) → d < deepMost
     run-room n =
         let l = before-length in
-        running-room caption e end (take base (cells bs₀ ns₀)) (w .runs) (area-length bs ns end hb hn) fit (take e bs)
-        (text-bytes caption e end (take base (cells bs₀ ns₀)) bs ns to starts tags d (w .runs .state) (w .runs .stands) (omega arith) (omega arith) hb hn fit) refl n
+        running-room caption (m .text) (m .end) P₀ (w .runs) (area-length bs ns (m .end) hb hn) fit (take (m .text) bs)
+        (text-bytes caption (m .text) (m .end) P₀ bs ns to starts tags d (w .runs .state) (w .runs .stands) (omega arith) (omega arith) hb hn fit) refl n
 
-    pub run-done : e ≤ i → Runs caption e base end (take base (cells bs₀ ns₀)) (take end (cells bs ns)) to starts tags d
-    run-done le =
+    pub run-end : m .text ≤ i → Finishing caption (m .text) (m .end) P₀ (take (m .end) (cells bs ns)) to starts tags d seen
+    run-end le =
         let l = before-length in
-        let k : length (take e (take base (cells bs₀ ns₀))) ≡ e = length-take-le e (take base (cells bs₀ ns₀)) (omega arith) in
-        record {
-          done = λ _. subst (λ (m : ℕ). Reached caption e m end (take base (cells bs₀ ns₀)) (take end (cells bs ns)) to starts tags d) l
-              (running-end caption e end (take base (cells bs₀ ns₀)) (w .runs) (area-length bs ns end hb hn) fit (omega arith));
-          full = λ lt. absurd (omega arith);
-        }
+        let k : length (take (m .text) P₀) ≡ m .text = length-take-le (m .text) P₀ (omega arith) in
+        running-end caption (m .text) (m .end) P₀ (w .runs) (area-length bs ns (m .end) hb hn) fit (omega arith)
 
-    module _ {bs' ns' : List ℕ} {to' : ℕ} {starts' tags' : List ℕ} {d' i' : ℕ} (t : TakesOne caption e base end bs ns to starts tags d i bs' ns' to' starts' tags' d' i')
+    module _ {bs' ns' : List ℕ} {to' : ℕ} {starts' tags' : List ℕ} {d' i' : ℕ} (t : TakesOne caption (m .text) (m .base) (m .end) bs ns to starts tags d i bs' ns' to' starts' tags' d' i')
         (lb : length bs' ≡ length bs) (ln : length ns' ≡ length ns) where
-      pub run-on : to' ≤ end → RunningIn bs' ns' to' starts' tags' d' i'
-      run-on le = record {
-        runs = running-on caption e end (take base (cells bs₀ ns₀)) (w .runs) (area-length bs ns end hb hn) fit
-            (t .each (take base (cells bs₀ ns₀)) (w .runs .state) before-length (w .runs .stands)) (area-length bs' ns' end (omega arith) (omega arith)) le;
-      }
+      pub run-on : to' ≤ m .end → (n : ℕ) → n ≡ max seen (to - m .base) → RunningIn bs' ns' to' starts' tags' d' i' n
+      run-on le n en =
+          let q : n ≡ max seen (to - length P₀) = en ∙ ap (λ (k : ℕ). max seen (to - k)) (sym before-length) in
+          record {
+            runs = rw q (running-on caption (m .text) (m .end) P₀ (w .runs) (area-length bs ns (m .end) hb hn) fit (t .each P₀ (w .runs .state) before-length (w .runs .stands))
+                (area-length bs' ns' (m .end) (omega arith) (omega arith)) le);
+          }
 
-      pub run-full : end < to' → Runs caption e base end (take base (cells bs₀ ns₀)) (take end (cells bs' ns')) to' starts' tags' d'
-      run-full lt = record {
-        done = λ le. absurd (omega arith);
-        full = λ _.
-            let l = before-length in
-            let f = running-full caption e end (take base (cells bs₀ ns₀)) (w .runs) (area-length bs ns end hb hn) fit
-            (t .each (take base (cells bs₀ ns₀)) (w .runs .state) before-length (w .runs .stands)) (area-length bs' ns' end (omega arith) (omega arith)) lt in
-            omega (arith, l, f);
-      }
+      pub run-full : m .end < to' → m .end < m .base + quotesNeed caption (take (m .text) (cells bs₀ ns₀))
+      run-full lt =
+          let f = running-full caption (m .text) (m .end) P₀ (w .runs) (area-length bs ns (m .end) hb hn) fit
+          (t .each P₀ (w .runs .state) before-length (w .runs .stands)) (area-length bs' ns' (m .end) (omega arith) (omega arith)) lt in
+          rw (before-length, take-take (m .text) (m .base) (cells bs₀ ns₀) he) at f
 
-  -- all of it
-  module _ {v : List Cell} {to : ℕ} {starts tags : List ℕ} {d : ℕ} (r : Runs caption e base end (take base (cells bs₀ ns₀)) v to starts tags d) where
-    text-is : take e (take base (cells bs₀ ns₀)) ≡ take e (cells bs₀ ns₀)
-    text-is = take-take e base (cells bs₀ ns₀) he
+  text-is : take (m .text) P₀ ≡ take (m .text) (cells bs₀ ns₀)
+  text-is = take-take (m .text) (m .base) (cells bs₀ ns₀) he
 
-    pub pass-full : end < to → Leaves base end v to (quotes caption (take e (cells bs₀ ns₀))) (quotesNeed caption (take e (cells bs₀ ns₀)))
-    pass-full lt =
-        let f : end < base + quotesNeed caption (take e (cells bs₀ ns₀)) = rw (← text-is) (r .full lt) in
-        record { fits = λ le. absurd (omega (arith, f, le)); full = λ _. lt }
+  module _ {v : List Cell} {starts tags : List ℕ} {to d seen : ℕ} (f : Finishing caption (m .text) (m .end) P₀ v to starts tags d seen) where
+    pub seen-short : m .base + seen ≤ m .end
+    seen-short = let l = before-length in let s = f .short in omega (arith, l, s)
 
-    pub pass-done : {v' : List Cell} {to' : ℕ} → to ≤ end → ClosesAll caption e base end v to starts tags d v' to' → Leaves base end v' to' (quotes caption (take e (cells bs₀ ns₀))) (quotesNeed caption (take e (cells bs₀ ns₀)))
-    pass-done {v'} {to'} le cl =
-        let k = r .done le in
-        let c : Leaves base end v' to' (finish caption (k .now) (k .opened)) (finishNeed caption (k .now) (k .opened)) = cl (take base (cells bs₀ ns₀)) (k .now) (k .opened) before-length (k .stands) in
-        let q : quotes caption (take e (cells bs₀ ns₀)) ≡ finish caption (k .now) (k .opened) = rw (← text-is) (k .same) in
-        let n : max (end - base) (quotesNeed caption (take e (cells bs₀ ns₀))) ≡ max (end - base) (finishNeed caption (k .now) (k .opened)) = rw (← text-is) (k .need) in
-        record {
-          fits = λ h. rw q (c .fits (omega (arith, n, h)));
-          full = λ h. c .full (omega (arith, n, h));
-        }
+    pub pass-done : (v' : List Cell) (a : Passed) → Leaves (m .base) (m .end) v' (finish caption (f .now) (f .opened)) (max seen (finishNeed caption (f .now) (f .opened))) a
+        → Leaves (m .base) (m .end) v' (quotes caption (take (m .text) (cells bs₀ ns₀))) (quotesNeed caption (take (m .text) (cells bs₀ ns₀))) a
+    pass-done v' a l = rw (← text-is, f .same, f .need) l

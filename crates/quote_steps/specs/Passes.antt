@@ -1,30 +1,59 @@
 -- How the quote pass stands in work memory. The text x is the first e cells of a pair of slices, and the open contents stand in them one
 -- behind another from `base` up to a place `to`, in an area that ends at `end`; P is what stands before `base`.
---   Lent base end ..      how long the lent slices are
+--   Lent m ..             how long the lent slices are, for the areas m
+--   Content m begin to    where a content may stand
+--   Built ..              a block stands in its area, and the contents are as they were
 --   Stood .. qs           where the content of each open quote begins, and where its opener stands in the text
 --   Stands .. s           the area holds what the state s of the machine has
---   Closes ..             the last content of an area has been replaced by another text; ClosesIn: of a pair of slices
---   ClosesLast, ClosesAll the innermost open quote has been closed; all that are open have
+--   Closes ..             the last content of an area has been replaced by another text; ClosesIn: of a pair of slices; ClosesQuote: by a quote's block
+--   ClosesLast            the innermost open quote has been closed; ClosesInner: in a pair of slices, whose text stays
 --   texts x r             text cell by cell, and the tokens r behind it
 --   more s x              the state s, and text behind it
---   Takes, TakesOne       one token has been taken, and text behind it
---   Reached, Runs         all tokens have been taken, as far as they fit
---   Leaves .. need        the area holds the pass's result, where the need does not exceed the room
+--   Ready ..              there is a token to take
+--   Takes, TakesOne       one token has been taken, and text behind it; TakesToken: in a pair of slices, whose text stays
+--   Leaves .. need r      the area holds the pass's result and r its need, or the need exceeds the room
+--   ClosesAll             all open quotes have been closed, as far as they fit
+--   RunsAll               all tokens have been taken, as far as they fit; Finishing: what is open behind them
 -- Assumes nothing.
 use mathlib.Core.Path.{_≡_}
-use Prim.Native.Nat.{ℕ, _+_, _-_, _≤_, _<_, max}
+use Prim.Native.Nat.{ℕ, _+_, _-_, _*_, _≤_, _<_, max}
 use mathlib.Core.List.{List, [], _∷_, _++_}
 use lib.ListN.{length, take, drop, getD}
+use Rattle.text.specs.Bounds.{deepMost, numberMost}
 use Rattle.text.specs.Cells.{Cell, cells, bytes, part}
-use Rattle.text.specs.Writes.{Holds}
-use Rattle.quote_tags.specs.Tags.{attributionOf}
-use Rattle.quote_blocks.specs.Quotes.{Token, text, tokens, Quote, State, opening, close, step, finish, finishNeed, quotes, quotesNeed}
+use Rattle.text.specs.Writes.{Holds, Appends}
+use Rattle.attribution_parts.specs.Attribution.{caption}
+use Rattle.quote_tags.specs.Tags.{NextBracket, openerSize, attributionOf}
+use Rattle.quote_blocks.specs.Quotes.{Token, text, tokens, Quote, State, opening, close, step, finish, finishNeed, quotes, quotesNeed, quoteBlock}
+use Rattle.quote_steps.specs.declared.close.Areas.{Areas}
+use Rattle.quote_steps.specs.declared.pass.Open.{Open}
+use Rattle.quote_steps.specs.declared.pass.Reached.{Reached}
+use Rattle.quote_steps.specs.declared.pass.Passed.{Passed}
+use Rattle.quote_steps.specs.declared.pass.Passed.the-variants.{Done, Full}
 
--- the area is no longer than the output, and behind it there is room for as much again: for the joined texts of an attribution; places fit
--- in 32 bits
-abbrev pub Lent : (base end : ℕ) (work numbers out origins : List ℕ) → Type 0
-Lent base end work numbers out origins =
-    ((end + length out ≤ length work) × ((end ≤ length numbers) × (end ≤ 268435456))) × ((length out ≤ length origins) × (end ≤ base + length out))
+-- a block's area is as long as the contents may get, and behind it there is room for as many bytes again; places fit in work numbers, four times over
+abbrev pub LentWithin : (base end top : ℕ) (work numbers : List ℕ) → Type 0
+LentWithin base end top work numbers =
+    ((top + (top - end) ≤ length work) × (top ≤ length numbers)) × ((end ≤ base + (top - end)) × ((end ≤ top) × (4 * top ≤ numberMost)))
+
+abbrev pub Lent : Areas → (work numbers : List ℕ) → Type 0
+Lent m work numbers = ((m .text ≤ m .base) × (m .base ≤ m .end)) × LentWithin (m .base) (m .end) (m .top) work numbers
+
+abbrev pub Content : Areas → (begin to : ℕ) → Type 0
+Content m begin to = (m .base ≤ begin) × ((begin ≤ to) × (to ≤ m .end))
+
+-- the block of the quote whose opener stands at `tag`
+abbrev pub blockOf : (e : ℕ) (bs : List ℕ) (tag : ℕ) → List Cell → List Cell
+blockOf e bs tag = quoteBlock (caption (attributionOf (drop tag (take e bs))))
+
+-- a text in the area from `end` up to `top`
+pub record BuiltIn (bs ns : List ℕ) (end top : ℕ) (bs' ns' : List ℕ) (r : ℕ) (t : List Cell) : Type 0 where
+  pub block : Appends (take top (cells bs ns)) end (take top (cells bs' ns')) r t
+  pub bytes-kept : take end bs' ≡ take end bs
+  pub numbers-kept : take end ns' ≡ take end ns
+
+abbrev pub Built : (m : Areas) (bs ns : List ℕ) (tag begin to : ℕ) (bs' ns' : List ℕ) (r : ℕ) → Type 0
+Built m bs ns tag begin to bs' ns' r = BuiltIn bs ns (m .end) (m .top) bs' ns' r (blockOf (m .text) bs tag (part begin to (cells bs ns)))
 
 -- s: the text's bytes
 unfoldable pub Stood : (s : List ℕ) (base : ℕ) (starts tags : List ℕ) → List Quote → Type 0
@@ -47,6 +76,9 @@ pub record Closes (v : List Cell) (start to : ℕ) (v' : List Cell) (to' : ℕ) 
 -- the same in the area of a pair of slices
 pub record ClosesIn (bs ns : List ℕ) (end start to : ℕ) (bs' ns' : List ℕ) (to' : ℕ) (block : List Cell → List Cell) : Type 0 where
   pub closes : Closes (take end (cells bs ns)) start to (take end (cells bs' ns')) to' block
+
+abbrev pub ClosesQuote : (m : Areas) (bs ns : List ℕ) (tag start to : ℕ) (bs' ns' : List ℕ) (to' : ℕ) → Type 0
+ClosesQuote m bs ns tag start to bs' ns' to' = ClosesIn bs ns (m .end) start to bs' ns' to' (blockOf (m .text) bs tag)
 
 unfoldable pub texts : List Cell → List Token → List Token
 texts [] r = r
@@ -75,26 +107,49 @@ pub record ClosesLast (caption : List ℕ → List ℕ) (e base end : ℕ) (bs n
   pub each : (P now : List Cell) (q : Quote) (qs : List Quote) → length P ≡ base → Stands e P (take end (cells bs ns)) to starts tags depth (record { now = now; opened = q ∷ qs })
       → Stands e P (take end (cells bs' ns')) to' starts tags (depth - 1) (record { now = close caption q now; opened = qs })
 
--- v holds the text `result` from `base` up to `to`, where the need does not exceed the room up to `end`; `to` is past the end where it does
-pub record Leaves (base end : ℕ) (v : List Cell) (to : ℕ) (result : List Cell) (need : ℕ) : Type 0 where
-  pub fits : base + need ≤ end → (to ≡ base + length result) × (part base to v ≡ result)
-  pub full : end < base + need → end < to
+pub record ClosesInner (m : Areas) (bs ns starts tags : List ℕ) (depth to : ℕ) (bs' ns' : List ℕ) (to' : ℕ) : Type 0 where
+  pub place : m .base ≤ to'
+  pub text : take (m .text) bs' ≡ take (m .text) bs
+  pub closes : ClosesLast caption (m .text) (m .base) (m .end) bs ns to starts tags depth bs' ns' to'
 
-module _ (caption : List ℕ → List ℕ) (e base end : ℕ) where
-  -- all quotes that are open in v have been closed
-  abbrev pub ClosesAll : (v : List Cell) (to : ℕ) (starts tags : List ℕ) (depth : ℕ) (v' : List Cell) (to' : ℕ) → Type 0
-  ClosesAll v to starts tags depth v' to' =
-      (P now : List Cell) (qs : List Quote) → length P ≡ base → Stands e P v to starts tags depth (record { now = now; opened = qs })
-      → Leaves base end v' to' (finish caption now qs) (finishNeed caption now qs)
+pub record Ready (m : Areas) (bs ns starts tags : List ℕ) (o : Open) : Type 0 where
+  pub lent : Lent m bs ns
+  pub at : o .at .0 < m .text
+  pub to : (m .base ≤ o .to .0) × (o .to .0 ≤ m .end)
+  pub tables : (length starts ≡ deepMost) × ((length tags ≡ deepMost) × (o .depth ≤ deepMost))
+  pub bracket : NextBracket (take (m .text) bs) (o .at .0) (o .bracket .0)
+  pub room : (openerSize (drop (o .at .0) (take (m .text) bs)) ≡ 0 → ⊥) → o .depth < deepMost
 
-  -- all tokens of the text before P's end e have been taken; what is open is left to be closed
-  pub record Reached (P v : List Cell) (to : ℕ) (starts tags : List ℕ) (depth : ℕ) : Type 0 where
-    pub now : List Cell
-    pub opened : List Quote
-    pub stands : Stands e P v to starts tags depth (record { now = now; opened = opened })
-    pub same : quotes caption (take e P) ≡ finish caption now opened
-    pub need : max (end - base) (quotesNeed caption (take e P)) ≡ max (end - base) (finishNeed caption now opened)
+pub record TakesToken (m : Areas) (bs ns starts tags : List ℕ) (o : Open) (bs' ns' starts' tags' : List ℕ) (o' : Open) : Type 0 where
+  pub on : (o .at .0 < o' .at .0) × (o' .at .0 ≤ m .text)
+  pub place : m .base ≤ o' .to .0
+  pub depth : o' .depth ≤ deepMost
+  pub text : take (m .text) bs' ≡ take (m .text) bs
+  pub bracket : NextBracket (take (m .text) bs') (o' .at .0) (o' .bracket .0)
+  pub takes : TakesOne caption (m .text) (m .base) (m .end) bs ns (o .to .0) starts tags (o .depth) (o .at .0) bs' ns' (o' .to .0) starts' tags' (o' .depth) (o' .at .0)
 
-  pub record Runs (P v : List Cell) (to : ℕ) (starts tags : List ℕ) (depth : ℕ) : Type 0 where
-    pub done : to ≤ end → Reached P v to starts tags depth
-    pub full : end < to → end < base + quotesNeed caption (take e P)
+-- v holds the text `result` from `base` on, in the room up to `end`
+abbrev pub Leaves : (base end : ℕ) (v result : List Cell) (need : ℕ) → Passed → Type 0
+Leaves base end v result need (Done to n) = ((base + need ≤ end) × (n ≡ need)) × ((to .0 ≡ base + length result) × (part base (to .0) v ≡ result))
+Leaves base end v result need Full = end < base + need
+
+-- whatever is open at r
+abbrev pub ClosesAll : (m : Areas) (bs ns starts tags : List ℕ) (r : Reached) (bs' ns' : List ℕ) → Passed → Type 0
+ClosesAll m bs ns starts tags r bs' ns' answer =
+    (P now : List Cell) (qs : List Quote) → length P ≡ m .base → m .base + r .seen ≤ m .end → Stands (m .text) P (take (m .end) (cells bs ns)) (r .to .0) starts tags (r .depth) (record { now = now; opened = qs })
+    → Leaves (m .base) (m .end) (take (m .end) (cells bs' ns')) (finish caption now qs) (max (r .seen) (finishNeed caption now qs)) answer
+
+-- what is open is left to be closed
+pub record Finishing (caption : List ℕ → List ℕ) (e end : ℕ) (P v : List Cell) (to : ℕ) (starts tags : List ℕ) (depth seen : ℕ) : Type 0 where
+  pub now : List Cell
+  pub opened : List Quote
+  pub stands : Stands e P v to starts tags depth (record { now = now; opened = opened })
+  pub same : quotes caption (take e P) ≡ finish caption now opened
+  pub need : quotesNeed caption (take e P) ≡ max seen (finishNeed caption now opened)
+  pub short : length P + seen ≤ end
+
+pub record RunsAll (m : Areas) (bs ns bs' ns' starts tags : List ℕ) (r : Reached) : Type 0 where
+  pub place : m .base ≤ r .to .0
+  pub depth : r .depth ≤ deepMost
+  pub done : r .to .0 ≤ m .end → Finishing caption (m .text) (m .end) (take (m .base) (cells bs ns)) (take (m .end) (cells bs' ns')) (r .to .0) starts tags (r .depth) (r .seen)
+  pub full : m .end < r .to .0 → m .end < m .base + quotesNeed caption (take (m .text) (cells bs ns))

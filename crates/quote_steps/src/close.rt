@@ -1,26 +1,35 @@
-// Closing a quote: its block takes the place of its content. The text stands before e in the work slices, the open contents behind it up to
-// `end`; behind that, the joined texts of an attribution. The block is built in the output slices and copied back.
+// Closing a quote: its block takes the place of its content. The block is built in an area of its own behind the contents, with the joined texts of the
+// attribution behind that, and copied back.
+use attribution::caption::Words;
 use attribution_losses::join::join_texts;
 use quote_blocks::block::quote_block;
 use quote_tags::tag::opener_size;
 use text::PostAt;
-use text::TextAt;
-use text::area::copy_in;
+use text::WorkAt;
+use text::area::copy_back;
 use text::scan::next_bracket;
 ghost use mathlib.Core.Path.{_≡_};
-ghost use Prim.Native.Nat.{_+_, _-_, _≤_, _<_};
+ghost use Prim.Native.Nat.{_-_, _≤_, _<_};
 ghost use lib.ListN.{length, take, drop, getD};
 ghost use Rattle.text.specs.Cells.{cells, part};
-ghost use Rattle.text.specs.Writes.{Appends};
 ghost use Rattle.attribution_parts.specs.Attribution.{caption};
 ghost use Rattle.quote_tags.specs.Tags.{attributionOf};
 ghost use Rattle.quote_blocks.specs.Quotes.{quoteBlock};
-ghost use Rattle.quote_steps.specs.Passes.{Lent, ClosesIn, ClosesLast};
+ghost use Rattle.quote_steps.specs.Passes.{Lent, Content, Built, ClosesQuote, ClosesInner};
 
 // The place past every slice's end.
 const FULL: usize = 0xffff_ffff_ffff_ffff;
 
-// Where an attribution stands.
+// Where the pass stands in work memory: its text before `text`, the open contents one behind another from `base` up to `end`, the block of a quote that
+// is closed from there up to `top`, and behind that, in the bytes alone, the joined texts of an attribution.
+pub struct Areas {
+    pub text: usize,
+    pub base: usize,
+    pub end: usize,
+    pub top: usize,
+}
+
+// Where an attribution stands in the text.
 pub struct Extent {
     pub from: PostAt,
     pub to: PostAt,
@@ -47,88 +56,70 @@ fn attribution_of(s: &[u8], tag: PostAt) -> Extent
 // no caption that does.
 fn build_block(
     work: &mut [u8],
-    numbers: &[u32],
-    e: usize,
-    end: usize,
+    numbers: &mut [u32],
+    m: Areas,
     tag: PostAt,
-    begin: TextAt,
-    to: TextAt,
-    out: &mut [u8],
-    origins: &mut [u32],
-) -> TextAt
-    requires { ⌜ ((tag .0 ≤ e) × ((e ≤ end) × ((begin .0 ≤ to .0) × (to .0 ≤ end)))) × (((end + length (now out) ≤ length (now work)) × (end ≤ length (now numbers))) × (end ≤ 268435456)) ⌝ }
-    ensures { λ r. ⌜ (take end (now (work .exit)) ≡ take end (now (work .entry))) × Appends (cells (now (out .entry)) (now (origins .entry))) 0 (cells (now (out .exit)) (now (origins .exit))) (r .0) (quoteBlock (caption (attributionOf (drop (tag .0) (take e (now (work .entry)))))) (part (begin .0) (to .0) (cells (now (work .entry)) (now (numbers .entry))))) ⌝ }
+    begin: WorkAt,
+    to: WorkAt,
+) -> WorkAt
+    requires { ⌜ Lent m (now work) (now numbers) × ((tag .0 ≤ m .text) × Content m (begin .0) (to .0)) ⌝ }
+    ensures { λ r. ⌜ Built m (now (work .entry)) (now (numbers .entry)) (tag .0) (begin .0) (to .0) (now (work .exit)) (now (numbers .exit)) (r .0) ⌝ }
 {
-    let words = attribution_of(&work[..e], tag);
+    let size = m.text;
+    let end = m.end;
+    let top = m.top;
+    let words = attribution_of(&work[..size], tag);
     let from = words.from;
     let last = words.to;
     let a = from.0;
     let b = last.0;
-    let first = begin.0;
-    let past = to.0;
-    let j = join_texts(work, a, b, end);
+    let j = join_texts(work, a, b, top);
     if work.len() < j {
-        return TextAt(FULL);
+        return WorkAt(FULL);
     }
-    let memory = &work[..];
-    quote_block(
-        memory,
-        numbers,
-        PostAt(first),
-        PostAt(past),
-        &memory[a..b],
-        &memory[end..j],
-        out,
-        origins,
-    )
+    let spoken = Words {
+        from: a,
+        to: b,
+        joined: top,
+        past: j,
+    };
+    quote_block(work, numbers, begin, to, spoken, top, WorkAt(end))
 }
 
 // Replaces the content from `begin` up to `to` by the block of the quote whose opener stands at `tag`.
 fn close_quote(
     work: &mut [u8],
     numbers: &mut [u32],
-    e: usize,
-    end: usize,
+    m: Areas,
     tag: PostAt,
-    begin: TextAt,
-    to: TextAt,
-    out: &mut [u8],
-    origins: &mut [u32],
-) -> TextAt
-    requires { ⌜ ((tag .0 ≤ e) × ((e ≤ end) × ((begin .0 ≤ to .0) × (to .0 ≤ end)))) × Lent (begin .0) end (now work) (now numbers) (now out) (now origins) ⌝ }
-    ensures { λ r. ⌜ (begin .0 ≤ r .0) × ClosesIn (now (work .entry)) (now (numbers .entry)) end (begin .0) (to .0) (now (work .exit)) (now (numbers .exit)) (r .0) (quoteBlock (caption (attributionOf (drop (tag .0) (take e (now (work .entry))))))) ⌝ }
+    begin: WorkAt,
+    to: WorkAt,
+) -> WorkAt
+    requires { ⌜ Lent m (now work) (now numbers) × ((tag .0 ≤ m .text) × Content m (begin .0) (to .0)) ⌝ }
+    ensures { λ r. ⌜ (begin .0 ≤ r .0) × ClosesQuote m (now (work .entry)) (now (numbers .entry)) (tag .0) (begin .0) (to .0) (now (work .exit)) (now (numbers .exit)) (r .0) ⌝ }
 {
-    let n = build_block(work, numbers, e, end, tag, begin, to, out, origins);
-    let len = n.0;
-    if out.len() < len {
-        return TextAt(FULL);
+    let end = m.end;
+    let n = build_block(work, numbers, m, tag, begin, to);
+    if m.top < n.0 {
+        return WorkAt(FULL);
     }
-    copy_in(
-        out,
-        origins,
-        PostAt(0),
-        PostAt(len),
-        work,
-        numbers,
-        end,
-        begin,
-    )
+    copy_back(work, numbers, WorkAt(end), n, end, begin)
 }
 
 // The start at an index, from base up to `to`.
-fn start_of(starts: &[u32], d: usize, base: usize, to: TextAt) -> TextAt
+fn start_of(starts: &[u32], d: usize, base: usize, to: WorkAt) -> WorkAt
     requires { ⌜ (base ≤ to .0) × (d < length (now starts)) ⌝ }
     ensures { λ r. ⌜ ((base ≤ r .0) × (r .0 ≤ to .0)) × (base ≤ getD (now (starts .entry)) d 0 → getD (now (starts .entry)) d 0 ≤ to .0 → r .0 ≡ getD (now (starts .entry)) d 0) ⌝ }
 {
     let s = starts[d] as usize;
     let t = to.0;
     if s < base {
-        return TextAt(base);
+        return WorkAt(base);
     }
     if t < s {
         return to;
     }
-    TextAt(s)
+    WorkAt(s)
 }
 
 // The place of an opener at an index, up to e.
@@ -147,20 +138,16 @@ fn tag_of(tags: &[u32], d: usize, e: usize) -> PostAt
 pub fn close_innermost(
     work: &mut [u8],
     numbers: &mut [u32],
-    e: usize,
-    base: usize,
-    end: usize,
+    m: Areas,
     starts: &[u32],
     tags: &[u32],
     open: usize,
-    to: TextAt,
-    out: &mut [u8],
-    origins: &mut [u32],
-) -> TextAt
-    requires { ⌜ ((e ≤ base) × ((base ≤ to .0) × (to .0 ≤ end))) × (Lent base end (now work) (now numbers) (now out) (now origins) × ((0 < «open») × ((«open» ≤ length (now starts)) × («open» ≤ length (now tags))))) ⌝ }
-    ensures { λ r. ⌜ (base ≤ r .0) × ((take e (now (work .exit)) ≡ take e (now (work .entry))) × ClosesLast caption e base end (now (work .entry)) (now (numbers .entry)) (to .0) (now (starts .entry)) (now (tags .entry)) «open» (now (work .exit)) (now (numbers .exit)) (r .0)) ⌝ }
+    to: WorkAt,
+) -> WorkAt
+    requires { ⌜ (Lent m (now work) (now numbers) × ((m .base ≤ to .0) × (to .0 ≤ m .end))) × ((0 < «open») × ((«open» ≤ length (now starts)) × («open» ≤ length (now tags)))) ⌝ }
+    ensures { λ r. ⌜ ClosesInner m (now (work .entry)) (now (numbers .entry)) (now (starts .entry)) (now (tags .entry)) «open» (to .0) (now (work .exit)) (now (numbers .exit)) (r .0) ⌝ }
 {
-    let begin = start_of(starts, open - 1, base, to);
-    let tag = tag_of(tags, open - 1, e);
-    close_quote(work, numbers, e, end, tag, begin, to, out, origins)
+    let begin = start_of(starts, open - 1, m.base, to);
+    let tag = tag_of(tags, open - 1, m.text);
+    close_quote(work, numbers, m, tag, begin, to)
 }

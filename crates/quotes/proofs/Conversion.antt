@@ -3,8 +3,8 @@ use mathlib.Core.Path.{_≡_, refl, sym, ap, _∙_}
 use mathlib.Core.Bool.{Bool, true, false, cond}
 use mathlib.Core.List.{List, [], _++_}
 use Prim.Native.Nat.{ℕ, _+_, _-_, _*_, _≤_, _<_}
+use native.Mathlib.Nat.{zero-add}
 use native.Mathlib.Omega.{arith}
-use native.Mathlib.Decide.{decLe}
 use lib.ListN.{length, take, drop, length-map, length-append}
 use lib.Seq.{take-take, length-take-le, take-append-le}
 use lib.Dec.{ltb}
@@ -16,7 +16,6 @@ use Rattle.lending.specs.declared.lent.Refusal.the-variants.{NoSpace}
 use Rattle.lending.specs.declared.lent.Checked.{Checked}
 use Rattle.lending.specs.declared.lent.Checked.the-variants as C
 use Rattle.text.proofs.Clearing.{laid-cleared}
-use Rattle.text.proofs.Sources.{cells-taken, source-front}
 use Rattle.losses.specs.declared.Loss.{Loss}
 use Rattle.losses.specs.Records.{recordsLent}
 use Rattle.attribution_parts.specs.Attribution.{caption}
@@ -24,7 +23,6 @@ use Rattle.quote_tags.specs.Masks.{visible}
 use Rattle.quote_lines.specs.Lines.{tags, linesOf}
 use Rattle.quote_blocks.specs.Quotes.{tooDeep, quotes, quotesNeed}
 use Rattle.quote_blocks.proofs.QuotesFit.{quotes-fit}
-use Rattle.quote_steps.specs.Passes.{Leaves}
 use Rattle.quotes.specs.declared.Quoted.{Quoted}
 use Rattle.quotes.specs.declared.Quoted.the-variants.{Done, Refused}
 use Rattle.quote_losses.specs.Losses.{quoteLosses, lossBytes, lossRecords, ListsLosses}
@@ -106,41 +104,36 @@ called text m k j b w n r out plain numbers words records c e = record { answer 
 
 -- ---- the pass
 
-pub source-taken : (text bs ns : List ℕ) (n : ℕ) → n ≡ length text → take (length text) bs ≡ text → cells text ns ≡ cellsOf text → take n (cells bs ns) ≡ cellsOf text
-source-taken text bs ns n size hb hn = sym (cells-taken n bs ns) ∙ source-front text bs ns n size hb hn
+-- a text at the front is taken
+pub source-taken : (text bs ns : List ℕ) → part 0 (0 + length text) (cells bs ns) ≡ cellsOf text → take (length text) (cells bs ns) ≡ cellsOf text
+unfolding part
+source-taken text bs ns h = ap (λ (k : ℕ). take k (cells bs ns)) (sym (zero-add (length text))) ∙ h
 
-module _ (text : List ℕ) (y v : List Cell) (m n end r : ℕ) (z : y ≡ cellsOf text) (area : end ≡ n + m) (p : Leaves n end (take end v) r (quotes caption y) (quotesNeed caption y)) where
-  -- the pass stayed within its area
-  in-room : r ≤ end → quotesNeed caption y ≤ m
-  in-room fit = elim (decLe (quotesNeed caption y) m) [ yes h ↦ h | no h ↦ absurd (let w = p .full (omega arith) in omega arith) ]
-
-  pub pass-up : r ≤ end → n ≤ r
-  pass-up fit = let w = p .fits (let h = in-room fit in omega arith) .0 in omega arith
-
+module _ (text : List ℕ) (y v : List Cell) (m n end : ℕ) (z : y ≡ cellsOf text) (area : end ≡ n + m) where
   module _ {k b : ℕ} {l : Quoted} {out plain words : List ℕ} where
-    pub written-full : end < r → l ≡ Refused NoSpace → Filled [] [] m k b out plain words → Answers text m k b (spaced (cellsOf text) m) l out plain words
+    pub written-full : end < n + quotesNeed caption y → l ≡ Refused NoSpace → Filled [] [] m k b out plain words → Answers text m k b (spaced (cellsOf text) m) l out plain words
     unfolding spaced
     written-full far g f =
-        let q = quotes-fit caption y in
         let e : quotesNeed caption y ≡ quotesNeed caption (cellsOf text) = ap (quotesNeed caption) z in
-        let over : m < quotesNeed caption (cellsOf text) = elim (decLe (quotesNeed caption y) m) [ yes h ↦ absurd (let w = p .fits (omega arith) .0 in omega arith) | no h ↦ omega arith ] in
-        rw g (record { answer = rw (lt-ltb m (quotesNeed caption (cellsOf text)) over); filled = f })
+        rw g (record { answer = rw (lt-ltb m (quotesNeed caption (cellsOf text)) (omega (arith, e, area, far))); filled = f })
 
-    pub written-done : (bs : List ℕ) (losses size : ℕ) → r ≤ end → Spelled (cellsOf text) bs losses size → length bs ≡ b
-        → l ≡ Done (r - n) losses size → LaidOut (part n r v) m k out plain → words ≡ cleared size bs
+    pub written-done : (bs : List ℕ) (losses size r need : ℕ) → ((n + quotesNeed caption y ≤ end) × (need ≡ quotesNeed caption y)) × ((r ≡ n + length (quotes caption y)) × (part n r (take end v) ≡ quotes caption y)) → r ≤ end
+        → Spelled (cellsOf text) bs losses size → length bs ≡ b → l ≡ Done (r - n) losses size → LaidOut (part n r v) m k out plain → words ≡ cleared size bs
         → Answers text m k b (spaced (cellsOf text) m) l out plain words
     unfolding spaced part
-    written-done bs losses size fit w lb g laid eb =
-        let h = in-room fit in
-        let d = p .fits (omega arith) in
+    written-done bs losses size r need p fit w lb g laid eb =
         let e : quotesNeed caption y ≡ quotesNeed caption (cellsOf text) = ap (quotesNeed caption) z in
         let t : length (quotes caption y) ≡ length (quotes caption (cellsOf text)) = ap (λ (c : List Cell). length (quotes caption c)) z in
-        let s : r - n ≡ length (quotes caption (cellsOf text)) = (let a = d .0 in omega arith) in
-        let c : part n r v ≡ quotes caption (cellsOf text) = ap (drop n) (sym (take-take r end v fit)) ∙ d .1 ∙ ap (quotes caption) z in
+        let s : r - n ≡ length (quotes caption (cellsOf text)) = omega (arith, p .1 .0, t) in
+        let c : part n r v ≡ quotes caption (cellsOf text) = ap (drop n) (sym (take-take r end v fit)) ∙ p .1 .1 ∙ ap (quotes caption) z in
         rw g (record {
-          answer = rw (le-ltb m (quotesNeed caption (cellsOf text)) (omega arith), ← s, ← w .count, ← w .size);
+          answer = rw (le-ltb m (quotesNeed caption (cellsOf text)) (omega (arith, p .0 .0, e, area)), ← s, ← w .count, ← w .size);
           filled = record {
             laid = rw (← c) laid;
             spelled = eb ∙ laid-cleared (lossBytes (cellsOf text)) bs size b lb (sym (w .size)) (w .words-there);
           };
         })
+
+-- what the pass leaves stays within the room
+pub quoted-within : (x : List Cell) (n end r : ℕ) → n + quotesNeed caption x ≤ end → r ≡ n + length (quotes caption x) → (n ≤ r) × (r ≤ end)
+quoted-within x n end r h e = let f = quotes-fit caption x in (omega (arith, e), omega (arith, e, f, h))

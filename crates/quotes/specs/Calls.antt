@@ -13,17 +13,21 @@
 --   Noted ..                 the numbers then begin with theirs, five each
 --   Answers .. wanted r ..   r comes back, as is wanted, and output, origins and loss bytes are filled accordingly
 --   Numbered ..              this of a call, with the losses noted
+--   Laid x ..                the text x is laid out, with the loss bytes; LaysText: and answered
+--   Writable ..              what writing a text within the limits asks for; Written: what it leaves
+--   Converts ..              what converting a text that is right leaves
 --   Spelled x ..             the loss bytes of the text x stand at the front of a slice
 -- Assumes nothing.
 use mathlib.Core.Path.{_≡_}
 use Prim.Native.Nat.{ℕ, _*_, _≤_}
-use mathlib.Core.Bool.{Bool, cond}
+use mathlib.Core.Bool.{Bool, false, cond}
 use mathlib.Core.List.{List, [], _∷_}
 use lib.ListN.{length, take}
 use lib.Dec.{ltb}
+use Rattle.text.specs.Bounds.{textMost, outMost, workSize}
 use Rattle.text.specs.Cells.{Cell, cellsOf}
 use Rattle.lending.specs.Lent.{numberOf, checked}
-use Rattle.text.specs.Writes.{padded, LaidOut}
+use Rattle.text.specs.Writes.{cleared, padded, LaidOut}
 use Rattle.lending.specs.declared.lent.Refusal.the-variants.{TooDeep, NoSpace, TooManyLosses, LossBytesShort}
 use Rattle.lending.specs.declared.lent.Spans.the-variants.{Without}
 use Rattle.lending.specs.declared.lent.Lent.{Lent}
@@ -32,6 +36,7 @@ use Rattle.lending.specs.declared.lent.Checked.the-variants as C
 use Rattle.losses.specs.declared.Loss.{Loss}
 use Rattle.losses.specs.Records.{recordsLent}
 use Rattle.attribution_parts.specs.Attribution.{caption}
+use Rattle.attribution_losses.specs.declared.loss.Counts.{Counts}
 use Rattle.quote_blocks.specs.Quotes.{tooDeep, quotes, quotesNeed}
 use Rattle.quotes.specs.declared.Quoted.{Quoted}
 use Rattle.quotes.specs.declared.Quoted.the-variants.{Done, Refused}
@@ -104,6 +109,26 @@ pub record Answers (text : List ℕ) (m k b : ℕ) (wanted r : Quoted) (out plai
 abbrev pub Numbered : (text : List ℕ) (m k j b w n : ℕ) (r : Quoted) (out plain numbers words : List ℕ) → Type 0
 Numbered text m k j b w n r out plain numbers words =
     Answers text m k b (answered text (record { out = m; origins = k; work = w; numbers = n; spans = Without }) j b) r out plain words × Noted text j r numbers
+
+-- the text x is laid out, and the loss bytes are cleared behind the first `size`
+abbrev pub Laid : (x : List Cell) (size : ℕ) (out plain words out' plain' words' : List ℕ) → Type 0
+Laid x size out plain words out' plain' words' = LaidOut x (length out) (length plain) out' plain' × (words' ≡ cleared size words)
+
+abbrev pub LaysText : (x : List Cell) (n : ℕ) → Counts → (out plain words : List ℕ) → Quoted → (out' plain' words' : List ℕ) → Type 0
+LaysText x n c out plain words r out' plain' words' = (r ≡ Done n (c .losses) (c .bytes)) × Laid x (c .bytes) out plain words out' plain' words'
+
+-- work memory for the cells of a text, the contents, a block and joined texts
+abbrev pub Writable : (text work numbers out plain : List ℕ) → Type 0
+Writable text work numbers out plain =
+    (((length text ≤ textMost) × ((length out ≤ outMost) × (length out ≤ length plain))) × ((workSize (length text) (length out) ≤ length work) × (workSize (length text) (length out) ≤ length numbers)))
+    × (tooDeep (cellsOf text) ≡ false)
+
+abbrev pub Written : (text out plain words : List ℕ) → Quoted → (out' plain' words' : List ℕ) → Type 0
+Written text out plain words r out' plain' words' = Answers text (length out) (length plain) (length words) (spaced (cellsOf text) (length out)) r out' plain' words'
+
+abbrev pub Converts : (text : List ℕ) (j : ℕ) (out plain words : List ℕ) → Quoted → (out' plain' numbers' words' : List ℕ) → Type 0
+Converts text j out plain words r out' plain' numbers' words' =
+    Answers text (length out) (length plain) (length words) (converted (cellsOf text) (length out) j (length words)) r out' plain' words' × Noted text j r numbers'
 
 pub record Spelled (x : List Cell) (words : List ℕ) (losses bytes : ℕ) : Type 0 where
   pub count : losses ≡ length (quoteLosses x)

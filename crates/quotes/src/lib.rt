@@ -10,27 +10,27 @@ use losses::fill;
 use quote_lines::search::read_lines;
 use quote_losses::loss::Listed;
 use quote_losses::loss::list_losses;
+use quote_steps::close::Areas;
+use quote_steps::pass::Passed;
 use quote_steps::pass::quote_pass;
-use text::PostAt;
 use text::TextAt;
-use text::blank::number;
-use text::source::set_source;
+use text::WorkAt;
+use text::source::set_cells;
 use text::write::lay_nothing;
 use text::write::lay_part;
 use text::zero::zero8;
 ghost use mathlib.Core.Path.{_≡_};
-ghost use mathlib.Core.Bool.{false};
 ghost use mathlib.Core.List.{[]};
-ghost use Prim.Native.Nat.{_+_, _-_, _*_, _≤_};
+ghost use Prim.Native.Nat.{_+_, _-_, _≤_};
 ghost use lib.ListN.{length, take};
+ghost use Rattle.text.specs.Bounds.{textMost, Room};
 ghost use Rattle.text.specs.Cells.{cells, cellsOf, part};
-ghost use Rattle.text.specs.Writes.{cleared, LaidOut};
 ghost use Rattle.quote_tags.specs.Masks.{visible};
 ghost use Rattle.quote_lines.specs.Lines.{tags};
-ghost use Rattle.quote_blocks.specs.Quotes.{TooDeep, tooDeep};
+ghost use Rattle.quote_blocks.specs.Quotes.{TooDeep};
 ghost use Rattle.quote_losses.specs.Losses.{ListsLosses};
-ghost use Rattle.quotes.specs.Calls.{limited, spaced, converted, lossesBy, Filled, Called, Noted, Answers, Numbered, Spelled};
-ghost use Rattle.quotes.specs.declared.Quoted.the-variants.{Done, Refused};
+ghost use Rattle.quotes.specs.Calls.{limited, lossesBy, Filled, Called, LaysText, Writable, Written, Converts, Numbered, Spelled};
+ghost use Rattle.quotes.specs.declared.Quoted.the-variants.{Refused};
 
 // The length of the text, the number of losses and the length of the loss bytes; or why there is no text.
 pub enum Quoted {
@@ -55,7 +55,7 @@ fn list_own(
     base: usize,
     loss_bytes: &mut [u8],
 ) -> Listed
-    requires { ⌜ (length (now text) ≤ 262144) × ((length (now text) ≤ length (now work)) × (base + length (now text) ≤ length (now numbers))) ⌝ }
+    requires { ⌜ (length (now text) ≤ textMost) × ((length (now text) ≤ length (now work)) × (base + length (now text) ≤ length (now numbers))) ⌝ }
     ensures { λ r. ⌜ ListsLosses (now (text .entry)) (tags 1 0 (visible (now (text .entry)))) (take base (now (numbers .entry))) (now («loss_bytes» .entry)) (take base (now (numbers .exit))) (now («loss_bytes» .exit)) (r .losses) (r .bytes) × TooDeep (now (text .entry)) (r .deep) ⌝ }
 {
     let own = read_lines(text, work, &mut numbers[base..]);
@@ -83,15 +83,15 @@ pub fn refusal_of(deep: bool, many: bool, long: bool) -> Checked
 fn lay_result(
     work: &[u8],
     numbers: &[u32],
-    from: PostAt,
-    to: PostAt,
+    from: WorkAt,
+    to: WorkAt,
     losses: Counts,
     out: &mut [u8],
     origins: &mut [u32],
     loss_bytes: &mut [u8],
 ) -> Quoted
     requires { ⌜ ((from .0 ≤ to .0) × ((to .0 ≤ length (now work)) × (to .0 ≤ length (now numbers)))) × ((to .0 ≤ from .0 + length (now out)) × (to .0 ≤ from .0 + length (now origins))) ⌝ }
-    ensures { λ l. ⌜ (l ≡ Done (to .0 - from .0) (losses .losses) (losses .bytes)) × (LaidOut (part (from .0) (to .0) (cells (now (work .entry)) (now (numbers .entry)))) (length (now (out .entry))) (length (now (origins .entry))) (now (out .exit)) (now (origins .exit)) × (now («loss_bytes» .exit) ≡ cleared (losses .bytes) (now («loss_bytes» .entry)))) ⌝ }
+    ensures { λ l. ⌜ LaysText (part (from .0) (to .0) (cells (now (work .entry)) (now (numbers .entry)))) (to .0 - from .0) losses (now (out .entry)) (now (origins .entry)) (now («loss_bytes» .entry)) l (now (out .exit)) (now (origins .exit)) (now («loss_bytes» .exit)) ⌝ }
 {
     let a = from.0;
     let e = to.0;
@@ -112,28 +112,32 @@ fn write_quotes(
     origins: &mut [u32],
     loss_bytes: &mut [u8],
 ) -> Quoted
-    requires { ⌜ ((length (now text) ≤ 262144) × ((length (now out) ≤ 16777216) × (length (now out) ≤ length (now origins)))) × (((length (now text) + 3 * length (now out) ≤ length (now work)) × (length (now text) + 3 * length (now out) ≤ length (now numbers))) × ((tooDeep (cellsOf (now text)) ≡ false) × Spelled (cellsOf (now text)) (now «loss_bytes») (losses .losses) (losses .bytes))) ⌝ }
-    ensures { λ r. ⌜ Answers (now (text .entry)) (length (now (out .entry))) (length (now (origins .entry))) (length (now («loss_bytes» .entry))) (spaced (cellsOf (now (text .entry))) (length (now (out .entry)))) r (now (out .exit)) (now (origins .exit)) (now («loss_bytes» .exit)) ⌝ }
+    requires { ⌜ Writable (now text) (now work) (now numbers) (now out) (now origins) × Spelled (cellsOf (now text)) (now «loss_bytes») (losses .losses) (losses .bytes) ⌝ }
+    ensures { λ r. ⌜ Written (now (text .entry)) (now (out .entry)) (now (origins .entry)) (now («loss_bytes» .entry)) r (now (out .exit)) (now (origins .exit)) (now («loss_bytes» .exit)) ⌝ }
 {
     let n = text.len();
-    let end = n + out.len();
-    number(text, numbers);
-    set_source(text, work);
-    let r = quote_pass(work, numbers, n, n, end, out, origins);
-    let to = r.0;
-    if end < to {
-        return refuse(Refusal::NoSpace, out, origins, loss_bytes);
+    let m = out.len();
+    let areas = Areas {
+        text: n,
+        base: n,
+        end: n + m,
+        top: n + m + m,
+    };
+    set_cells(text, work, numbers, WorkAt(0));
+    let passed = quote_pass(work, numbers, areas);
+    match passed {
+        Passed::Full => refuse(Refusal::NoSpace, out, origins, loss_bytes),
+        Passed::Done(to, _) => lay_result(
+            work,
+            numbers,
+            WorkAt(n),
+            to,
+            losses,
+            out,
+            origins,
+            loss_bytes,
+        ),
     }
-    lay_result(
-        work,
-        numbers,
-        PostAt(n),
-        PostAt(to),
-        losses,
-        out,
-        origins,
-        loss_bytes,
-    )
 }
 
 // Converts a text that is right, in memory that is large enough. A text has no more losses than bytes, so five numbers for each byte hold the
@@ -147,8 +151,8 @@ fn convert(
     origins: &mut [u32],
     loss_bytes: &mut [u8],
 ) -> Quoted
-    requires { ⌜ ((length (now text) ≤ 262144) × ((length (now out) ≤ 16777216) × (length (now out) ≤ length (now origins)))) × ((length (now text) + 3 * length (now out) ≤ length (now work)) × (8 * length (now text) + 3 * length (now out) + 64 ≤ length (now numbers))) ⌝ }
-    ensures { λ r. ⌜ Answers (now (text .entry)) (length (now (out .entry))) (length (now (origins .entry))) (length (now («loss_bytes» .entry))) (converted (cellsOf (now (text .entry))) (length (now (out .entry))) lent (length (now («loss_bytes» .entry)))) r (now (out .exit)) (now (origins .exit)) (now («loss_bytes» .exit)) × Noted (now (text .entry)) lent r (now (numbers .exit)) ⌝ }
+    requires { ⌜ Room (length (now text)) (length (now out)) (length (now work)) (length (now numbers)) × (length (now out) ≤ length (now origins)) ⌝ }
+    ensures { λ r. ⌜ Converts (now (text .entry)) lent (now (out .entry)) (now (origins .entry)) (now («loss_bytes» .entry)) r (now (out .exit)) (now (origins .exit)) (now (numbers .exit)) (now («loss_bytes» .exit)) ⌝ }
 {
     let base = 5 * text.len();
     let c = list_own(text, work, numbers, base, loss_bytes);

@@ -3,10 +3,11 @@ use mathlib.Core.Path.{_≡_, refl, sym, ap, _∙_}
 use Prim.Native.Nat.{ℕ, zero, suc, _+_, _-_, _≤_, _<_}
 use native.Mathlib.Nat.{add-zero, add-suc}
 use native.Mathlib.Omega.{arith}
+use native.Mathlib.Decide.{decLe}
 use mathlib.Core.List.{List, [], _∷_, _++_, append-assoc, append-nil}
 use lib.ListN.{length, take, drop, getD, length-drop}
 use lib.Seq.{drop-cons, drop-drop, take-take, take-add, take-append-le, take-append-add, length-take-le, drop-at, paste, length-paste, take-paste, drop-paste, take-all}
-use Rattle.text.specs.Writes.{Pasted}
+use Rattle.text.specs.Writes.{Pasted, Apart}
 
 -- ---- a block
 
@@ -86,7 +87,7 @@ module _ {src xs : List ℕ} {a e at : ℕ} {buf : List ℕ} {i to : ℕ} (w : C
       }
 
 -- within one slice: what is read before `at` stands there since the start
-pub copying-within : {xs : List ℕ} {a e at : ℕ} {buf : List ℕ} {i to : ℕ} → Copying xs xs a e at buf i to → at ≤ length xs → i + 16 ≤ at → take 16 (drop i buf) ≡ take 16 (drop i xs)
+copying-within : {xs : List ℕ} {a e at : ℕ} {buf : List ℕ} {i to : ℕ} → Copying xs xs a e at buf i to → at ≤ length xs → i + 16 ≤ at → take 16 (drop i buf) ≡ take 16 (drop i xs)
 copying-within {xs} {a} {e} {at} {buf} {i} {to} w h k =
     let n : length (take at xs) ≡ at = length-take-le at xs h in
     let s : take at buf ≡ take at xs = sym (take-take at to buf (omega (arith, w .end))) ∙ ap (take at) (w .text)
@@ -98,3 +99,14 @@ copying-within {xs} {a} {e} {at} {buf} {i} {to} w h k =
         let x : i + (at - i) ≡ at = omega arith in
         sym (take-take 16 (at - i) (drop i v) (omega arith))
         ∙ ap (take 16) (sym (drop-at (take i v) (take (at - i) (drop i v)) i (length-take-le i v hv)) ∙ ap (drop i) (sym (take-add i (at - i) v) ∙ ap (λ (j : ℕ). take j v) x))
+
+-- within one slice: a run that stands before the place or behind all that is written is read as it stood there at the start
+pub copying-apart : {xs : List ℕ} {a e at : ℕ} {buf : List ℕ} {i to : ℕ} → Copying xs xs a e at buf i to → at ≤ length xs → i < e → Apart a (e + 15) at (at + (e - a) + 15) → take 16 (drop i buf) ≡ take 16 (drop i xs)
+copying-apart {xs} {a} {e} {at} {buf} {i} {to} w h lt f =
+    elim (decLe (e + 15) at) [
+      | yes k ↦ copying-within w h (omega arith)
+      | no n ↦ (let q : at + (e - a) + 15 ≤ a = f (omega arith) in
+          let z : at + (e - a) + 15 + (i - (at + (e - a) + 15)) ≡ i = omega (arith, q, w .order) in
+          let k : ℕ = i - (at + (e - a) + 15) in
+          ap (take 16) (ap (λ (j : ℕ). drop j buf) (sym z) ∙ sym (drop-drop k (at + (e - a) + 15) buf) ∙ ap (drop k) (w .behind) ∙ drop-drop k (at + (e - a) + 15) xs ∙ ap (λ (j : ℕ). drop j xs) z))
+    ]

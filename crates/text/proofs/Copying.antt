@@ -34,7 +34,7 @@ one-self n = go (eqb n n) (eqb-refl n)
 one-eq : (n a : ℕ) → a ≡ n → one n a ≡ 1
 one-eq n a e = rw e (one-self n)
 
-count-append : (n : ℕ) (l m : List ℕ) → count n (l ++ m) ≡ count n l + count n m
+pub count-append : (n : ℕ) (l m : List ℕ) → count n (l ++ m) ≡ count n l + count n m
 unfolding count
 count-append n [] m = omega arith
 count-append n (a ∷ l) m = omega (arith, count-append n l m)

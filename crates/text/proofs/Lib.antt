@@ -10,6 +10,7 @@ pub mod Trimming
 pub mod Decimals
 pub mod SplitLaws
 pub mod Copying
+pub mod Bracketing
 pub mod Areas
 pub mod Blocks
 pub mod Sources

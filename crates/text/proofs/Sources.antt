@@ -1,11 +1,11 @@
 -- Laws of a source: a text at the front of a pair of slices, and parts of a pair. Assumes nothing.
 use mathlib.Core.Path.{_≡_, refl, sym, ap, _∙_}
-use mathlib.Core.List.{List, [], _∷_}
+use mathlib.Core.List.{List, [], _∷_, _++_, append-nil}
 use Prim.Native.Nat.{ℕ, zero, suc, _+_, _-_, _≤_, _<_}
 use native.Mathlib.Numerals.{add-one}
 use native.Mathlib.Omega.{arith}
-use lib.ListN.{length, take, drop, getD, set}
-use lib.Seq.{take-suc, take-suc-set, take-all, take-length, take-take, take-add, drop-at, length-take-le}
+use lib.ListN.{length, take, drop, getD, set, length-drop, drop-of-length-le}
+use lib.Seq.{take-suc, take-suc-set, take-all, take-length, take-take, take-add, take-append-le, drop-at, length-take-le}
 use Rattle.text.specs.Cells.{Cell, cell, cells, cellsOf, part}
 use Rattle.text.proofs.Writing.{cells-short, cells-le}
 
@@ -64,3 +64,29 @@ module _ (text bs ns : List ℕ) (n : ℕ) (size : n ≡ length text) (hb : take
   pub source-part : part 0 n (cells bs ns) ≡ cellsOf text
   unfolding part
   source-part = sym (cells-taken n bs ns) ∙ source-front
+
+-- ---- from a place on
+
+-- xs, of which all from `base` on has been lent and is ys now
+module _ (xs ys : List ℕ) (base : ℕ) (le : base ≤ length xs) where
+  abbrev pub then : List ℕ
+  then = take base xs ++ (ys ++ drop (length xs - base) (drop base xs))
+
+  pub back-is : drop base then ≡ ys
+  back-is =
+      let n = length-drop base xs in
+      drop-at (take base xs) (ys ++ drop (length xs - base) (drop base xs)) base (length-take-le base xs le)
+      ∙ ap (λ (r : List ℕ). ys ++ r) (drop-of-length-le (drop base xs) {i = length xs - base} (omega (arith, n))) ∙ append-nil ys
+
+  pub front-is : (end : ℕ) → end ≤ base → take end then ≡ take end xs
+  front-is end h =
+      let m = length-take-le base xs le in
+      take-append-le end (take base xs) (ys ++ drop (length xs - base) (drop base xs)) (omega (arith, m, h)) ∙ take-take end base xs h
+
+-- a text whose bytes and numbers stand from a place on
+pub source-at : (text bs ns ys zs : List ℕ) (at : ℕ) → at ≤ length bs → at ≤ length ns → drop at bs ≡ ys → drop at ns ≡ zs → take (length text) ys ≡ text → cells text zs ≡ cellsOf text
+    → part at (at + length text) (cells bs ns) ≡ cellsOf text
+source-at text bs ns ys zs at hb hn qb qn h k =
+    part-take (cells bs ns) at (length text) (cells-le bs ns at hb hn)
+    ∙ ap (take (length text)) (sym (cells-dropped at bs ns) ∙ ap (λ (l : List ℕ). cells l (drop at ns)) qb ∙ ap (cells ys) qn)
+    ∙ sym (cells-taken (length text) ys zs) ∙ source-front text ys zs (length text) refl h k

@@ -11,7 +11,7 @@ use lib.Seq.{drop-cons, getD-take, length-take-le}
 use lib.Dec.{eqb}
 use borrow.Author.Tests.{eq-eqb, ne-eqb}
 use Rattle.text.specs.Ascii.{toFirst}
-use Rattle.text.specs.Cells.{Cell, cell, cells, part}
+use Rattle.text.specs.Cells.{Cell, cell, cells, isBlank, part}
 use Rattle.text.specs.Lines.{trimStart, trimOnto, trimEnd, allBlank, isFeed, lineOnto, lines}
 use Rattle.text.proofs.Bytes.{first-within}
 use Rattle.text.proofs.Decide.{and-no}
@@ -20,21 +20,21 @@ use Rattle.text.proofs.Writing.{part-none, part-end, part-cons, part-sn
 -- ---- from the start
 
 module _ (bs ns : List ℕ) (i e : ℕ) (lt : i < e) (hb : e ≤ length bs) (hn : e ≤ length ns) where
-  pub trimStart-blank : getD ns i 0 % 2 ≡ 1 → trimStart (part i e (cells bs ns)) ≡ trimStart (part (i + 1) e (cells bs ns))
+  pub trimStart-blank : isBlank (getD ns i 0) ≡ true → trimStart (part i e (cells bs ns)) ≡ trimStart (part (i + 1) e (cells bs ns))
   unfolding trimStart
-  trimStart-blank t = rw (part-cons bs ns i e lt hb hn, eq-eqb (getD ns i 0 % 2) 1 t)
+  trimStart-blank t = rw (part-cons bs ns i e lt hb hn, t)
 
-  pub trimStart-other : (getD ns i 0 % 2 ≡ 1 → ⊥) → trimStart (part i e (cells bs ns)) ≡ part i e (cells bs ns)
+  pub trimStart-other : isBlank (getD ns i 0) ≡ false → trimStart (part i e (cells bs ns)) ≡ part i e (cells bs ns)
   unfolding trimStart
-  trimStart-other t = rw (part-cons bs ns i e lt hb hn, ne-eqb (getD ns i 0 % 2) 1 t)
+  trimStart-other t = rw (part-cons bs ns i e lt hb hn, t)
 
-  pub allBlank-blank : getD ns i 0 % 2 ≡ 1 → allBlank (part i e (cells bs ns)) ≡ allBlank (part (i + 1) e (cells bs ns))
+  pub allBlank-blank : isBlank (getD ns i 0) ≡ true → allBlank (part i e (cells bs ns)) ≡ allBlank (part (i + 1) e (cells bs ns))
   unfolding allBlank
-  allBlank-blank t = rw (part-cons bs ns i e lt hb hn, eq-eqb (getD ns i 0 % 2) 1 t)
+  allBlank-blank t = rw (part-cons bs ns i e lt hb hn, t)
 
-  pub allBlank-other : (getD ns i 0 % 2 ≡ 1 → ⊥) → allBlank (part i e (cells bs ns)) ≡ false
+  pub allBlank-other : isBlank (getD ns i 0) ≡ false → allBlank (part i e (cells bs ns)) ≡ false
   unfolding allBlank
-  allBlank-other t = rw (part-cons bs ns i e lt hb hn, ne-eqb (getD ns i 0 % 2) 1 t)
+  allBlank-other t = rw (part-cons bs ns i e lt hb hn, t)
 
 module _ (x : List Cell) (i e : ℕ) (h : e ≤ i) where
   pub trimStart-end : trimStart (part i e x) ≡ part i e x
@@ -67,11 +67,11 @@ trimEnd-snoc-other (d ∷ x) c t = ap (trimOnto d) (trimEnd-snoc-other x c t) �
 
 -- j is the place before i
 module _ (bs ns : List ℕ) (a j i : ℕ) (one : i ≡ j + 1) (le : a ≤ j) (hb : j < length bs) (hn : j < length ns) where
-  pub trimEnd-blank : getD ns j 0 % 2 ≡ 1 → trimEnd (part a i (cells bs ns)) ≡ trimEnd (part a j (cells bs ns))
-  trimEnd-blank t = rw (one, part-snoc bs ns a j hb hn le) (trimEnd-snoc-blank (part a j (cells bs ns)) (cell (getD bs j 0) (getD ns j 0)) (eq-eqb (getD ns j 0 % 2) 1 t))
+  pub trimEnd-blank : isBlank (getD ns j 0) ≡ true → trimEnd (part a i (cells bs ns)) ≡ trimEnd (part a j (cells bs ns))
+  trimEnd-blank t = rw (one, part-snoc bs ns a j hb hn le) (trimEnd-snoc-blank (part a j (cells bs ns)) (cell (getD bs j 0) (getD ns j 0)) (t))
 
-  pub trimEnd-other : (getD ns j 0 % 2 ≡ 1 → ⊥) → trimEnd (part a i (cells bs ns)) ≡ part a i (cells bs ns)
-  trimEnd-other t = rw (one, part-snoc bs ns a j hb hn le) (trimEnd-snoc-other (part a j (cells bs ns)) (cell (getD bs j 0) (getD ns j 0)) (ne-eqb (getD ns j 0 % 2) 1 t))
+  pub trimEnd-other : isBlank (getD ns j 0) ≡ false → trimEnd (part a i (cells bs ns)) ≡ part a i (cells bs ns)
+  trimEnd-other t = rw (one, part-snoc bs ns a j hb hn le) (trimEnd-snoc-other (part a j (cells bs ns)) (cell (getD bs j 0) (getD ns j 0)) (t))
 
 -- ---- lines
 

@@ -6,12 +6,14 @@
 --   feed            the line feed that a rule writes
 --   sign b          a byte that a rule writes and that is not blank
 --   bytes, origins  a text, and its origins
---   cell, cells     in code: a byte in a slice of bytes and a number in a slice of numbers
+--   cell, cells     in code: a byte in a slice of bytes and its code in a slice of numbers
+--   originOf x, isBlank x: what a code says
+--   numberedTo i .. a text of which the bytes before place i are numbered
 --   part a e x      the cells from place a up to place e
 -- Assumes nothing.
-use Prim.Native.Nat.{ℕ, suc, _-_, _/_, _%_}
+use Prim.Native.Nat.{ℕ, suc, _+_, _-_, _/_, _%_}
 use mathlib.Core.Bool.{Bool, true, false, cond, _||_}
-use mathlib.Core.List.{List, [], _∷_, map}
+use mathlib.Core.List.{List, [], _∷_, _++_, map}
 use lib.ListN.{take, drop}
 use lib.Dec.{eqb, ltb}
 use Rattle.text.specs.Blanks.{blankSize}
@@ -57,15 +59,25 @@ sign b = record { byte = b; origin = 0; blank = false }
 
 -- ---- cells in code
 
--- the number is 2 * origin, and 1 more where the character is blank
+-- a code is twice the origin, and 1 more where the character is blank
+abbrev pub originOf : ℕ → ℕ
+originOf x = x / 2
+
+abbrev pub isBlank : ℕ → Bool
+isBlank x = eqb (x % 2) 1
+
 abbrev pub cell : (b x : ℕ) → Cell
-cell b x = record { byte = b; origin = x / 2; blank = eqb (x % 2) 1 }
+cell b x = record { byte = b; origin = originOf x; blank = isBlank x }
 
 -- the cells of a slice of bytes and a slice of numbers, as many as both have
 unfoldable pub cells : List ℕ → List ℕ → List Cell
 cells [] xs = []
 cells (b ∷ bs) [] = []
 cells (b ∷ bs) (x ∷ xs) = cell b x ∷ cells bs xs
+
+-- the first i cells of a text as the numbers have them, and those behind as the post's: all that, once the text is numbered up to place i
+abbrev pub numberedTo : (i : ℕ) (s ns : List ℕ) → List Cell
+numberedTo i s ns = take i (cells s ns) ++ cellsFrom suc (i + 1) 0 (drop i s)
 
 unfoldable pub part : (a e : ℕ) → List Cell → List Cell
 part a e x = drop a (take e x)

@@ -1,5 +1,6 @@
 pub mod Ascii
 pub mod Blanks
+pub mod Bounds
 pub mod Cells
 pub mod Lines
 pub mod Decimal

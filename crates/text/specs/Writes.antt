@@ -1,7 +1,9 @@
 -- What the functions that write into lent slices say.
 --   Holds v at s              the first `at` cells of v are s, where s fits; where it does not, `at` is past v's end
 --   Appends v at v' at' t     from v at `at` to v' at `at'`, t has been appended
---   AppendsIn .. end ..       the same in the area before `end` of a longer pair of slices; nothing behind it changes
+--   AppendsIn .. end ..       the same in the area before `end` of a longer pair of slices; nothing before `at` and nothing behind `end` changes
+--   Apart a e at end          the part from a up to e stands outside of the area from `at` up to `end`: before it or behind it
+--   cut a e s                 the elements of s from a up to e
 --   Pasted xs at xs' t        t stands in xs' from `at` on, behind what xs has there; up to 15 elements behind t may be others than in xs
 --   cleared from xs           xs with a 0 for each element from place `from` on
 --   padded m xs               a slice of m elements that holds xs and then zeros
@@ -25,8 +27,16 @@ pub record Appends (v : List Cell) (at : ℕ) (v' : List Cell) (at' : ℕ) (t : 
 
 pub record AppendsIn (bs ns : List ℕ) (end at : ℕ) (bs' ns' : List ℕ) (at' : ℕ) (t : List Cell) : Type 0 where
   pub appends : Appends (take end (cells bs ns)) at (take end (cells bs' ns')) at' t
+  pub bytes-before : take at bs' ≡ take at bs
+  pub numbers-before : take at ns' ≡ take at ns
   pub bytes-behind : drop end bs' ≡ drop end bs
   pub numbers-behind : drop end ns' ≡ drop end ns
+
+abbrev pub Apart : (a e at end : ℕ) → Type 0
+Apart a e at end = at < e → end ≤ a
+
+abbrev pub cut : (a e : ℕ) → List ℕ → List ℕ
+cut a e s = take (e - a) (drop a s)
 
 pub record Pasted (xs : List ℕ) (at : ℕ) (xs' t : List ℕ) : Type 0 where
   pub text : take (at + length t) xs' ≡ take at xs ++ t

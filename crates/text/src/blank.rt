@@ -1,17 +1,18 @@
 // The 25 blank characters, and the cells of a post.
 use crate::PostAt;
+use crate::cell::post_code;
 use crate::scan::byte_at;
 use crate::scan::is_inside;
 use crate::shorter;
 ghost use mathlib.Core.Path.{_≡_};
 ghost use mathlib.Core.Bool.{cond, _&&_, _||_};
-ghost use mathlib.Core.List.{_++_};
-ghost use Prim.Native.Nat.{ℕ, suc, _+_, _≤_, _<_, min};
-ghost use lib.ListN.{length, take, drop, getD};
+ghost use Prim.Native.Nat.{ℕ, _+_, _≤_, _<_, min};
+ghost use lib.ListN.{length, drop, getD};
 ghost use lib.Dec.{eqb, leb, ltb};
 ghost use Rattle.text.specs.Ascii.{toFirst};
+ghost use Rattle.text.specs.Bounds.{textMost};
 ghost use Rattle.text.specs.Blanks.{blank1, blank2, blankE280, blank3, blankWidth, blankSize};
-ghost use Rattle.text.specs.Cells.{blankAt, moreAfter, cells, cellsFrom, cellsOf};
+ghost use Rattle.text.specs.Cells.{blankAt, moreAfter, cells, cellsOf, numberedTo};
 
 fn is_blank1(a: u8) -> bool
     ensures { λ r. ⌜ r ≡ blank1 a ⌝ }
@@ -193,24 +194,24 @@ fn set_flags(s: &[u8], i: usize, n: usize, flags: &mut [u8])
 // Numbers n bytes from i on, none of which can begin a blank character of more than one byte. The flags stand in an array of bytes first, so that
 // 16 of them are found at once where the machine can.
 fn number_run(s: &[u8], i: usize, n: usize, nums: &mut [u32])
-    requires { ⌜ ((length (now s) ≤ 262144) × (length (now s) ≤ length (now nums))) × ((n ≤ 512) × (i + n ≤ length (now s)) × (n ≤ toFirst (λ x. eqb x 0xC2 || (leb 0xE1 x && leb x 0xE3)) (drop i (now s)))) ⌝ }
-    ensures { λ _. ⌜ take i (cells (now (s .entry)) (now (nums .entry))) ++ cellsFrom suc (i + 1) 0 (drop i (now (s .entry))) ≡ take (i + n) (cells (now (s .entry)) (now (nums .exit))) ++ cellsFrom suc (i + n + 1) 0 (drop (i + n) (now (s .entry))) ⌝ }
+    requires { ⌜ ((length (now s) ≤ textMost) × (length (now s) ≤ length (now nums))) × ((n ≤ 512) × (i + n ≤ length (now s)) × (n ≤ toFirst (λ x. eqb x 0xC2 || (leb 0xE1 x && leb x 0xE3)) (drop i (now s)))) ⌝ }
+    ensures { λ _. ⌜ numberedTo i (now (s .entry)) (now (nums .entry)) ≡ numberedTo (i + n) (now (s .entry)) (now (nums .exit)) ⌝ }
 {
     let mut flags: [u8; 512] = [0; 512];
     set_flags(s, i, n, &mut flags);
-    let mut x = 2 * ((i + 1) as u32);
+    let mut j = i as u32;
     let mut k: usize = 0;
     while k < n {
-        nums[i + k] = x + wide(flags[k]);
-        x += 2;
+        nums[i + k] = post_code(j, wide(flags[k]));
+        j += 1;
         k += 1;
     }
 }
 
 // Numbers the bytes from i up to e, none of which can begin a blank character of more than one byte.
 fn number_plain(s: &[u8], i: usize, e: usize, nums: &mut [u32])
-    requires { ⌜ ((length (now s) ≤ 262144) × (length (now s) ≤ length (now nums))) × ((i ≤ e) × (e ≤ length (now s)) × (e ≤ i + toFirst (λ x. eqb x 0xC2 || (leb 0xE1 x && leb x 0xE3)) (drop i (now s)))) ⌝ }
-    ensures { λ _. ⌜ take i (cells (now (s .entry)) (now (nums .entry))) ++ cellsFrom suc (i + 1) 0 (drop i (now (s .entry))) ≡ take e (cells (now (s .entry)) (now (nums .exit))) ++ cellsFrom suc (e + 1) 0 (drop e (now (s .entry))) ⌝ }
+    requires { ⌜ ((length (now s) ≤ textMost) × (length (now s) ≤ length (now nums))) × ((i ≤ e) × (e ≤ length (now s)) × (e ≤ i + toFirst (λ x. eqb x 0xC2 || (leb 0xE1 x && leb x 0xE3)) (drop i (now s)))) ⌝ }
+    ensures { λ _. ⌜ numberedTo i (now (s .entry)) (now (nums .entry)) ≡ numberedTo e (now (s .entry)) (now (nums .exit)) ⌝ }
 {
     let mut j = i;
     while j < e {
@@ -222,8 +223,8 @@ fn number_plain(s: &[u8], i: usize, e: usize, nums: &mut [u32])
 
 // Numbers 16 bytes from i on, or fewer at the end, with what is left of a blank character that they cut; the place behind them.
 fn number_part(s: &[u8], i: usize, nums: &mut [u32]) -> usize
-    requires { ⌜ ((length (now s) ≤ 262144) × (length (now s) ≤ length (now nums))) × (i ≤ length (now s)) ⌝ }
-    ensures { λ r. ⌜ (min (i + 16) (length (now (s .entry))) ≤ r) × (r ≤ length (now (s .entry))) × (take i (cells (now (s .entry)) (now (nums .entry))) ++ cellsFrom suc (i + 1) 0 (drop i (now (s .entry))) ≡ take r (cells (now (s .entry)) (now (nums .exit))) ++ cellsFrom suc (r + 1) 0 (drop r (now (s .entry)))) ⌝ }
+    requires { ⌜ ((length (now s) ≤ textMost) × (length (now s) ≤ length (now nums))) × (i ≤ length (now s)) ⌝ }
+    ensures { λ r. ⌜ (min (i + 16) (length (now (s .entry))) ≤ r) × (r ≤ length (now (s .entry))) × (numberedTo i (now (s .entry)) (now (nums .entry)) ≡ numberedTo r (now (s .entry)) (now (nums .exit))) ⌝ }
 {
     let mut left: usize = 0;
     let mut j = i;
@@ -234,7 +235,7 @@ fn number_part(s: &[u8], i: usize, nums: &mut [u32]) -> usize
             }
         }
         let p = place_at(s, PostAt(j), left);
-        nums[j] = 2 * ((j + 1) as u32) + p.blank;
+        nums[j] = post_code(j as u32, p.blank);
         left = p.more;
         j += 1;
     }
@@ -243,7 +244,7 @@ fn number_part(s: &[u8], i: usize, nums: &mut [u32]) -> usize
 
 // Numbers the bytes of a text as a post's cells.
 pub fn number(s: &[u8], nums: &mut [u32])
-    requires { ⌜ (length (now s) ≤ 262144) × (length (now s) ≤ length (now nums)) ⌝ }
+    requires { ⌜ (length (now s) ≤ textMost) × (length (now s) ≤ length (now nums)) ⌝ }
     ensures { λ _. ⌜ cells (now (s .entry)) (now (nums .exit)) ≡ cellsOf (now (s .entry)) ⌝ }
 {
     let mut i: usize = 0;

@@ -1,5 +1,7 @@
 // Trimming and lines, over a part of a pair of slices.
 use crate::PostAt;
+use crate::WorkAt;
+use crate::cell::is_blank;
 use crate::scan::next_byte;
 ghost use mathlib.Core.Path.{_≡_};
 ghost use mathlib.Core.List.{_∷_};
@@ -9,48 +11,51 @@ ghost use Rattle.text.specs.Cells.{cell, cells, part};
 ghost use Rattle.text.specs.Lines.{trimStart, trimEnd, allBlank, isFeed, lines};
 
 // The first place from a on, before e, whose cell is not blank, or e.
-pub fn trim_start(src: &[u8], from: &[u32], a: PostAt, e: PostAt) -> PostAt
+pub fn trim_start(src: &[u8], from: &[u32], a: WorkAt, e: WorkAt) -> WorkAt
     requires { ⌜ (a .0 ≤ e .0) × ((e .0 ≤ length (now src)) × (e .0 ≤ length (now from))) ⌝ }
     ensures { λ r. ⌜ (a .0 ≤ r .0) × ((r .0 ≤ e .0) × (part (r .0) (e .0) (cells (now (src .entry)) (now (from .entry))) ≡ trimStart (part (a .0) (e .0) (cells (now (src .entry)) (now (from .entry)))))) ⌝ }
 {
     let end = e.0;
     let mut i = a.0;
     while i < end {
-        if from[i] % 2 != 1 {
-            return PostAt(i);
+        if is_blank(from[i]) {
+            i += 1;
+        } else {
+            return WorkAt(i);
         }
-        i += 1;
     }
-    PostAt(i)
+    WorkAt(i)
 }
 
 // The place behind the last cell that is not blank, from a up to e, or a.
-pub fn trim_end(src: &[u8], from: &[u32], a: PostAt, e: PostAt) -> PostAt
+pub fn trim_end(src: &[u8], from: &[u32], a: WorkAt, e: WorkAt) -> WorkAt
     requires { ⌜ (a .0 ≤ e .0) × ((e .0 ≤ length (now src)) × (e .0 ≤ length (now from))) ⌝ }
     ensures { λ r. ⌜ (a .0 ≤ r .0) × ((r .0 ≤ e .0) × (part (a .0) (r .0) (cells (now (src .entry)) (now (from .entry))) ≡ trimEnd (part (a .0) (e .0) (cells (now (src .entry)) (now (from .entry)))))) ⌝ }
 {
     let start = a.0;
     let mut i = e.0;
     while start < i {
-        if from[i - 1] % 2 != 1 {
-            return PostAt(i);
+        if is_blank(from[i - 1]) {
+            i -= 1;
+        } else {
+            return WorkAt(i);
         }
-        i -= 1;
     }
-    PostAt(i)
+    WorkAt(i)
 }
 
-pub fn all_blank(src: &[u8], from: &[u32], a: PostAt, e: PostAt) -> bool
+pub fn all_blank(src: &[u8], from: &[u32], a: WorkAt, e: WorkAt) -> bool
     requires { ⌜ (a .0 ≤ e .0) × ((e .0 ≤ length (now src)) × (e .0 ≤ length (now from))) ⌝ }
     ensures { λ r. ⌜ r ≡ allBlank (part (a .0) (e .0) (cells (now (src .entry)) (now (from .entry)))) ⌝ }
 {
     let end = e.0;
     let mut i = a.0;
     while i < end {
-        if from[i] % 2 != 1 {
+        if is_blank(from[i]) {
+            i += 1;
+        } else {
             return false;
         }
-        i += 1;
     }
     true
 }
@@ -60,13 +65,13 @@ pub fn is_feed(b: u8, x: u32) -> bool
     ensures { λ r. ⌜ r ≡ isFeed (cell b x) ⌝ }
 {
     if b == b'\n' {
-        return x % 2 == 1;
+        return is_blank(x);
     }
     false
 }
 
 // The place of the first line feed from a on, or e.
-pub fn line_end(src: &[u8], from: &[u32], a: PostAt, e: PostAt) -> PostAt
+pub fn line_end(src: &[u8], from: &[u32], a: WorkAt, e: WorkAt) -> WorkAt
     requires { ⌜ (a .0 < e .0) × ((e .0 ≤ length (now src)) × (e .0 ≤ length (now from))) ⌝ }
     ensures { λ r. ⌜ (a .0 ≤ r .0) × ((r .0 ≤ e .0) × (lines (part (a .0) (e .0) (cells (now (src .entry)) (now (from .entry)))) ≡ part (a .0) (r .0) (cells (now (src .entry)) (now (from .entry))) ∷ lines (part (r .0 + 1) (e .0) (cells (now (src .entry)) (now (from .entry)))))) ⌝ }
 {
@@ -74,10 +79,10 @@ pub fn line_end(src: &[u8], from: &[u32], a: PostAt, e: PostAt) -> PostAt
     let mut i = a.0;
     while i < end {
         if is_feed(src[i], from[i]) {
-            return PostAt(i);
+            return WorkAt(i);
         }
         let next = next_byte(&src[..end], PostAt(i + 1), b'\n');
         i = next.0;
     }
-    PostAt(i)
+    WorkAt(i)
 }

@@ -1,16 +1,15 @@
 // Writing cells into a lent pair of slices, one behind the other. A place past the end says that the text did not fit; it stays there.
-use crate::PostAt;
 use crate::TextAt;
-use crate::area::copy_in;
-use crate::blank::place_at;
-use crate::shorter;
+use crate::WorkAt;
+use crate::cell::RULE_SIGN;
+use crate::cell::origin_of;
 use crate::zero::zero8;
 use crate::zero::zero32;
 ghost use mathlib.Core.Path.{_≡_};
 ghost use mathlib.Core.List.{[], _∷_, map};
-ghost use Prim.Native.Nat.{_+_, _/_, _≤_};
+ghost use Prim.Native.Nat.{_+_, _≤_};
 ghost use lib.ListN.{length, take};
-ghost use Rattle.text.specs.Cells.{cell, cells, part, written, feed, sign};
+ghost use Rattle.text.specs.Cells.{cell, cells, originOf, part, sign};
 ghost use Rattle.text.specs.Decimal.{decimal};
 ghost use Rattle.text.specs.Writes.{Appends, padded, LaidOut};
 
@@ -32,51 +31,11 @@ pub fn put(buf: &mut [u8], nums: &mut [u32], at: TextAt, b: u8, x: u32) -> TextA
     TextAt(FULL)
 }
 
-// Appends a line feed that a rule writes.
-pub fn put_feed(buf: &mut [u8], nums: &mut [u32], at: TextAt) -> TextAt
-    ensures { λ r. ⌜ Appends (cells (now (buf .entry)) (now (nums .entry))) (at .0) (cells (now (buf .exit)) (now (nums .exit))) (r .0) (feed ∷ []) ⌝ }
-{
-    put(buf, nums, at, b'\n', 1)
-}
-
 // Appends a byte that a rule writes and that is not blank.
 pub fn put_sign(buf: &mut [u8], nums: &mut [u32], at: TextAt, b: u8) -> TextAt
     ensures { λ r. ⌜ Appends (cells (now (buf .entry)) (now (nums .entry))) (at .0) (cells (now (buf .exit)) (now (nums .exit))) (r .0) (sign b ∷ []) ⌝ }
 {
-    put(buf, nums, at, b, 0)
-}
-
-// Appends the cells of a source from a up to e.
-pub fn copy(
-    src: &[u8],
-    from: &[u32],
-    a: PostAt,
-    e: PostAt,
-    buf: &mut [u8],
-    nums: &mut [u32],
-    at: TextAt,
-) -> TextAt
-    requires { ⌜ (a .0 ≤ e .0) × ((e .0 ≤ length (now src)) × (e .0 ≤ length (now from))) ⌝ }
-    ensures { λ r. ⌜ Appends (cells (now (buf .entry)) (now (nums .entry))) (at .0) (cells (now (buf .exit)) (now (nums .exit))) (r .0) (part (a .0) (e .0) (cells (now (src .entry)) (now (from .entry)))) ⌝ }
-{
-    let end = shorter(buf.len(), nums.len());
-    copy_in(src, from, a, e, buf, nums, end, at)
-}
-
-// Appends a text that a rule writes.
-pub fn put_text(src: &[u8], buf: &mut [u8], nums: &mut [u32], at: TextAt) -> TextAt
-    ensures { λ r. ⌜ Appends (cells (now (buf .entry)) (now (nums .entry))) (at .0) (cells (now (buf .exit)) (now (nums .exit))) (r .0) (written (now (src .entry))) ⌝ }
-{
-    let mut more: usize = 0;
-    let mut i: usize = 0;
-    let mut to = at;
-    while i < src.len() {
-        let p = place_at(src, PostAt(i), more);
-        to = put(buf, nums, to, src[i], p.blank);
-        more = p.more;
-        i += 1;
-    }
-    to
+    put(buf, nums, at, b, RULE_SIGN)
 }
 
 // Appends a number in decimal.
@@ -106,11 +65,11 @@ fn lay_bytes(src: &[u8], n: usize, out: &mut [u8])
 // Lays out the origins of the first n numbers of a source, with zeros behind them.
 fn lay_origins(from: &[u32], n: usize, plain: &mut [u32])
     requires { ⌜ (n ≤ length (now from)) × (n ≤ length (now plain)) ⌝ }
-    ensures { λ _. ⌜ now (plain .exit) ≡ padded (length (now (plain .entry))) (map (λ x. x / 2) (take n (now (from .entry)))) ⌝ }
+    ensures { λ _. ⌜ now (plain .exit) ≡ padded (length (now (plain .entry))) (map originOf (take n (now (from .entry)))) ⌝ }
 {
     let mut i: usize = 0;
     while i < n {
-        plain[i] = from[i] / 2;
+        plain[i] = origin_of(from[i]);
         i += 1;
     }
     zero32(plain, TextAt(n));
@@ -126,7 +85,7 @@ pub fn lay_out(src: &[u8], from: &[u32], n: usize, out: &mut [u8], plain: &mut [
 }
 
 // Lays out the cells of a source from a up to e as text and origins, with zeros behind them.
-pub fn lay_part(src: &[u8], from: &[u32], a: PostAt, e: PostAt, out: &mut [u8], plain: &mut [u32])
+pub fn lay_part(src: &[u8], from: &[u32], a: WorkAt, e: WorkAt, out: &mut [u8], plain: &mut [u32])
     requires { ⌜ ((a .0 ≤ e .0) × ((e .0 ≤ length (now src)) × (e .0 ≤ length (now from)))) × ((e .0 ≤ a .0 + length (now out)) × (e .0 ≤ a .0 + length (now plain))) ⌝ }
     ensures { λ _. ⌜ LaidOut (part (a .0) (e .0) (cells (now (src .entry)) (now (from .entry)))) (length (now (out .entry))) (length (now (plain .entry))) (now (out .exit)) (now (plain .exit)) ⌝ }
 {

@@ -1,40 +1,29 @@
 use borrow.Author.Needs.{needs}
 use native.Mathlib.Omega.{arith}
 use mathlib.Core.Path.{sym}
-use Prim.Native.Nat.{_+_, _-_}
-use lib.ListN.{length}
-use Prim.Native.Nat.{_*_}
+use Prim.Native.Nat.{_-_}
 use lib.Seq.{length-take-le}
 use Rattle.lists.proofs.convert_in.Statement.{statement}
 use Rattle.lists.proofs.convert_in.Tie as tie
 
-mul-used : tie.Need-mul-used
-mul-used c = search needs
-
-mul-used-2 : tie.Need-mul-used-2
-mul-used-2 c = search needs
-
-add-used : tie.Need-add-used
-add-used c = search needs
-
-add-used-2 : tie.Need-add-used-2
-add-used-2 c = search needs
+numbers-size-requires : tie.Need-numbers-size-requires
+numbers-size-requires c κs = c .before .before .before .before .before .pre .0 .0
 
 slice-relend-prefix-convert : tie.Need-slice-relend-prefix-convert
-slice-relend-prefix-convert c = search needs
+slice-relend-prefix-convert c = omega (arith, c .before .before .before .before .before .before .before .pre, c .before .numbers-size .ensures)
 
 slice-aggregate-convert : tie.Need-slice-aggregate-convert
 slice-aggregate-convert c =
-    let a = c .before .before .before .before .before .before .before .args in
-    let pre = c .before .before .before .before .before .before .before .pre in
-    sym (length-take-le (8 * length (a .text .now) + 3 * length (a .out .now) + 64) (a .numbers .now) (omega arith))
+    let a = c .before .before .before .before .before .before .before .before .args in
+    sym (length-take-le (c .before .before .numbers-size .result) (a .numbers .now) (omega (arith, c .before .before .before .before .before .before .before .before .pre, c .before .before .numbers-size .ensures)))
 
 convert-requires : tie.Need-convert-requires
 convert-requires c κs =
-    let a = c .before .before .before .before .before .before .before .before .before .args in
-    let pre = c .before .before .before .before .before .before .before .before .before .pre in
-    let e = length-take-le (8 * length (a .text .now) + 3 * length (a .out .now) + 64) (a .numbers .now) (omega arith) in
-    omega arith
+    let a = c .before .before .before .before .before .before .before .before .before .before .args in
+    let p = c .before .before .before .before .before .before .before .before .before .before .pre in
+    let n = c .before .before .before .before .numbers-size .ensures in
+    let e = length-take-le (c .before .before .before .before .numbers-size .result) (a .numbers .now) (omega (arith, p, n)) in
+    ((((p .0 .0 .0, p .0 .0 .1), (p .0 .1 .0, omega (arith, e, n))), p .1), omega (arith, e, n, p))
 
 same-length : tie.Need-same-length
 same-length c = search needs
@@ -55,10 +44,7 @@ pub convert-in-spec : {M : Type 1} → statement M
 convert-in-spec =
     tie.close
     (tie.spec
-    mul-used
-    mul-used-2
-    add-used
-    add-used-2
+    numbers-size-requires
     slice-relend-prefix-convert
     slice-aggregate-convert
     convert-requires

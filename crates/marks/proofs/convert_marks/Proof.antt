@@ -2,8 +2,8 @@ use borrow.Author.Needs.{needs}
 use native.Mathlib.Omega.{arith}
 use mathlib.Core.Path.{sym, _∙_}
 use Prim.Native.Nat.{_-_}
-use Rattle.marks.proofs.Conversion.{called-refused, called-fine, spans-enough}
 use Rattle.lending.proofs.Sizes.{enough}
+use Rattle.marks.proofs.Conversion.{called-refused, called-fine, spans-enough}
 use Rattle.marks.proofs.convert_marks.Statement.{statement}
 use Rattle.marks.proofs.convert_marks.Tie as tie
 
@@ -21,7 +21,7 @@ enum-told c = search needs
 
 convert-requires : tie.Need-convert-requires
 convert-requires c κs =
-    let fine = sym (c .before .before .before .before .before .before .check .ensures) ∙ c .before .before .before .before .enum-told .given .1 in
+    let fine = sym (c .before .before .before .before .before .before .before .check .ensures) ∙ c .before .before .before .before .before .enum-told .given .1 in
     let h = enough _ _ fine in
     let s = spans-enough _ _ _ _ _ _ fine in
     omega arith
@@ -36,7 +36,8 @@ same-length-3 : tie.Need-same-length-3
 same-length-3 c = search needs
 
 returns : tie.Need-returns
-returns c = called-refused _ _ _ _ _ _ _ _ (c .before .before .before .before .before .before .before .before .before .before .before .before .before .check .ensures) _ (c .before .before .before .before .before .before .before .before .before .before .before .checked .given .1) (c .before .before .before .before .before .before .refuse .ensures .0) (c .before .before .before .before .before .before .refuse .ensures .1)
+returns c =
+    called-refused _ _ _ _ _ _ _ _ (c .before .before .before .before .before .before .before .before .before .before .before .before .before .check .ensures) _ (c .before .before .before .before .before .before .before .before .before .before .before .checked .given .1) (c .before .before .before .before .before .before .refuse .ensures .0) (c .before .before .before .before .before .before .refuse .ensures .1)
 
 same-length-4 : tie.Need-same-length-4
 same-length-4 c = search needs
@@ -50,8 +51,12 @@ same-length-6 c = search needs
 same-length-7 : tie.Need-same-length-7
 same-length-7 c = search needs
 
+same-length-8 : tie.Need-same-length-8
+same-length-8 c = search needs
+
 returns-2 : tie.Need-returns-2
-returns-2 c = called-fine _ _ _ _ _ _ _ _ (c .before .before .before .before .before .before .before .before .before .before .before .before .before .before .before .check .ensures) (c .before .before .before .before .before .before .before .before .before .before .before .before .before .enum-told .given .1) (c .before .before .before .before .before .before .before .before .convert .ensures)
+returns-2 c =
+    called-fine _ _ _ _ _ _ _ _ (c .before .before .before .before .before .before .before .before .before .before .before .before .before .before .before .before .before .before .check .ensures) (c .before .before .before .before .before .before .before .before .before .before .before .before .before .before .before .before .enum-told .given .1) (c .before .before .before .before .before .before .before .before .before .before .convert .ensures)
 
 pub convert-marks-spec : {M : Type 1} → statement M
 convert-marks-spec =
@@ -70,4 +75,5 @@ convert-marks-spec =
     same-length-5
     same-length-6
     same-length-7
+    same-length-8
     returns-2)

@@ -1,12 +1,17 @@
 use borrow.Author.Needs.{needs}
+use native.Mathlib.Omega.{arith}
 use mathlib.Core.Path.{refl}
 use Prim.Native.Nat.{_-_}
+use Rattle.marks.proofs.Conversion.{front-left}
 use Rattle.mark_tags.specs.Marks.{spanNumbers}
 use Rattle.marks.proofs.refuse.Statement.{statement}
 use Rattle.marks.proofs.refuse.Tie as tie
 
-leave-requires : tie.Need-leave-requires
-leave-requires c κs = search needs
+lay-nothing-requires : tie.Need-lay-nothing-requires
+lay-nothing-requires c κs = search needs
+
+zero32-requires : tie.Need-zero32-requires
+zero32-requires c κs = search needs
 
 same-length : tie.Need-same-length
 same-length c = search needs
@@ -19,14 +24,10 @@ same-length-3 c = search needs
 
 returns : tie.Need-returns
 unfolding spanNumbers
-returns c = let e = c .before .before .before .before .before .before .leave .ensures in (refl, record { laid = e .0; listed = e .1 })
+returns c =
+    (refl, record { laid = c .before .before .before .before .before .before .before .before .lay-nothing .ensures; listed = front-left (c .before .before .before .before .before .before .before .before .before .before .before .before .before .before .args .spans .now) _ 0 (omega arith) (c .before .before .zero32 .ensures) })
 
 pub refuse-spec : {M : Type 1} → statement M
 refuse-spec =
     tie.close
-    (tie.spec
-    leave-requires
-    same-length
-    same-length-2
-    same-length-3
-    returns)
+    (tie.spec lay-nothing-requires zero32-requires same-length same-length-2 same-length-3 returns)

@@ -22,7 +22,7 @@ enum-told c = search needs
 convert-in-requires : tie.Need-convert-in-requires
 convert-in-requires c κs =
     let h = enough _ _ (sym (c .before .before .before .before .before .before .before .check .ensures) ∙ c .before .before .before .before .before .enum-told .given .1) in
-    ((h .text, (h .out, h .origins)), (h .work, h .numbers))
+    (((h .text, h .out), (h .work, h .numbers)), h .origins)
 
 same-length : tie.Need-same-length
 same-length c = search needs

@@ -52,7 +52,7 @@ write-quotes-requires c κs =
     let lb = o .kept .1 .1 .1 .1 .0 in
     let n = back-long (o .last .1 .1 .0) (5 * length t) in
     let w = within (c .before .before .before .before .before .before .before .before .before .before .before .before .before .before .list-own .result .deep) (c .before .before .before .before .before .before .before .before .before .before .before .before .before .before .before .before .before .before .before .before .before .before .before .before .args .lent) (length (c .before .before .before .before .before .before .before .before .before .before .before .before .before .before .list-own .last .1 .1 .1 .1 .0)) (c .before .before .before .before .before .before .before .before .before .before .before .before .before .before .list-own .result .losses) (c .before .before .before .before .before .before .before .before .before .before .before .before .before .before .list-own .result .bytes) (sym (c .before .before .before .before .before .before .before .refusal-of .ensures) ∙ c .before .before .before .before .before .enum-told .given .1) in
-    (pre .0, ((omega (arith, pre .1 .0, lw), omega (arith, pre .1 .1, ln, n)), (c .before .before .before .before .before .before .before .before .before .before .before .before .before .before .list-own .ensures .1 (cellsOf t) (bytes-cellsOf t) ∙ w .0, spelled-there t _ _ _ _ _ _ _ (o .ensures .0) (cellsOf t) (bytes-cellsOf t) (omega (arith, w .1 .1, lb)))))
+    ((((pre .0 .0 .0, (pre .0 .0 .1, pre .1)), (omega (arith, pre .0 .1 .0, lw), omega (arith, pre .0 .1 .1, ln, n))), c .before .before .before .before .before .before .before .before .before .before .before .before .before .before .list-own .ensures .1 (cellsOf t) (bytes-cellsOf t) ∙ w .0), spelled-there t _ _ _ _ _ _ _ (o .ensures .0) (cellsOf t) (bytes-cellsOf t) (omega (arith, w .1 .1, lb)))
 
 same-length : tie.Need-same-length
 same-length c = search needs
@@ -104,10 +104,10 @@ returns-2 c =
     let n = listed-counts t _ _ _ _ _ _ _ (o .ensures .0) (cellsOf t) (bytes-cellsOf t) in
     let v = converted-by (cellsOf t) _ _ _ _ _ _ _ lb (sym (c .before .before .before .before .before .before .before .before .before .before .before .before .before .before .before .before .before .before .before .before .before .before .before .before .before .list-own .ensures .1 (cellsOf t) (bytes-cellsOf t))) (n .0) (n .1) in
     let w = within (c .before .before .before .before .before .before .before .before .before .before .before .before .before .before .before .before .before .before .before .before .before .before .before .before .before .list-own .result .deep) (c .before .before .before .before .before .before .before .before .before .before .before .before .before .before .before .before .before .before .before .before .before .before .before .before .before .before .before .before .before .before .before .before .before .before .before .args .lent) (length (c .before .before .before .before .before .before .before .before .before .before .before .before .before .before .before .before .before .before .before .before .before .before .before .before .before .list-own .last .1 .1 .1 .1 .0)) (c .before .before .before .before .before .before .before .before .before .before .before .before .before .before .before .before .before .before .before .before .before .before .before .before .before .list-own .result .losses) (c .before .before .before .before .before .before .before .before .before .before .before .before .before .before .before .before .before .before .before .before .before .before .before .before .before .list-own .result .bytes) (sym (c .before .before .before .before .before .before .before .before .before .before .before .before .before .before .before .before .before .before .refusal-of .ensures) ∙ c .before .before .before .before .before .before .before .before .before .before .before .before .before .before .before .before .enum-told .given .1) in
-    let l = length-take-le (5 * length t) (a .args .numbers .now) (omega (arith, pre .1 .1)) in
+    let l = length-take-le (5 * length t) (a .args .numbers .now) (omega (arith, pre .0 .1 .1)) in
     let e = rw lb at (c .before .before .before .before .before .before .before .before .before .before .write-quotes .ensures) in (
       answers-fine _ _ v (sym (c .before .before .before .before .before .before .before .before .before .before .before .before .before .before .before .before .before .before .refusal-of .ensures) ∙ c .before .before .before .before .before .before .before .before .before .before .before .before .before .before .before .before .enum-told .given .1) e,
-      spaced-noted t _ _ (5 * length t) (o .last .1 .1 .0) _ (w .1 .0) (records-there t _ _ _ _ _ _ _ (o .ensures .0) (cellsOf t) (bytes-cellsOf t) (omega (arith, o .ensures .0 .few, l))) (omega (arith, o .ensures .0 .few)) (omega (arith, pre .1 .1, ln)) (n .0) _ _ (e .answer),
+      spaced-noted t _ _ (5 * length t) (o .last .1 .1 .0) _ (w .1 .0) (records-there t _ _ _ _ _ _ _ (o .ensures .0) (cellsOf t) (bytes-cellsOf t) (omega (arith, o .ensures .0 .few, l))) (omega (arith, o .ensures .0 .few)) (omega (arith, pre .0 .1 .1, ln)) (n .0) _ _ (e .answer),
     )
 
 pub convert-spec : {M : Type 1} → statement M

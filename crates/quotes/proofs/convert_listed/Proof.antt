@@ -27,7 +27,7 @@ enum-told c = search needs
 convert-requires : tie.Need-convert-requires
 convert-requires c κs =
     let h = enough _ _ (sym (c .before .before .before .before .before .before .before .check .ensures) ∙ c .before .before .before .before .before .enum-told .given .1) in
-    ((h .text, (h .out, h .origins)), (h .work, h .numbers))
+    (((h .text, h .out), (h .work, h .numbers)), h .origins)
 
 -- src/lib.rt:182:1
 same-length : tie.Need-same-length

@@ -1,30 +1,41 @@
 use borrow.Author.Needs.{needs}
-use Prim.Native.Nat.{_-_}
-use Rattle.attribution.proofs.Captioning.{appends-as, no-id, an-id}
-use Rattle.text.proofs.Writing.{appends-then, appends-none}
+use native.Mathlib.Omega.{arith}
+use mathlib.Core.Path.{ap, _∙_}
+use Prim.Native.Nat.{ℕ, _+_}
+use Rattle.attribution.specs.Spoken.{said}
+use Rattle.text.specs.Cells.{written}
+use Rattle.text.proofs.Areas.{appendsIn-as, appendsIn-none, appendsIn-then, apart-on, apart-cut}
+use Rattle.attribution.proofs.Speaking.{said-length, inner-end, inner-cut, inner-apart}
+use Rattle.attribution.proofs.Captioning.{no-id, an-id}
 use Rattle.attribution.proofs.caption.put_id.Statement.{statement}
 use Rattle.attribution.proofs.caption.put_id.Tie as tie
 
 returns : tie.Need-returns
-returns c = let a = c .before .before .before .before .args in appends-as (no-id (a .s .now) (a .from) (a .size) (c .if1 .taken)) (appends-none _ _)
+returns c =
+    let a = c .before .before .before .args in
+    appendsIn-as (no-id (said (a .w) (a .work .now)) (a .from) (a .size) (c .if1 .taken)) (appendsIn-none _ _ _ _)
 
-add-end : tie.Need-add-end
-add-end c = search needs
+add-i : tie.Need-add-i
+add-i c =
+    let a = c .before .before .before .before .args in
+    let q = c .before .before .before .before .pre .0 in
+    let z = inner-end (a .work .now) (a .w) (q .0) (a .from) (a .size) (q .1) in omega (arith, z)
 
-put-sign-requires : tie.Need-put-sign-requires
-put-sign-requires c κs = search needs
+put-sign-in-requires : tie.Need-put-sign-in-requires
+put-sign-in-requires c κs = search needs
 
-sub-put-text : tie.Need-sub-put-text
-sub-put-text c = search needs
+add-put-within : tie.Need-add-put-within
+add-put-within c =
+    let a = c .before .before .before .before .before .before .before .before .before .before .before .before .before .args in
+    let q = c .before .before .before .before .before .before .before .before .before .before .before .before .before .pre .0 in
+    let z = inner-end (a .work .now) (a .w) (q .0) (a .from) (a .size) (q .1) in omega (arith, z)
 
-part-put-text-start : tie.Need-part-put-text-start
-part-put-text-start c = search needs
-
-part-put-text-end : tie.Need-part-put-text-end
-part-put-text-end c = search needs
-
-put-text-requires : tie.Need-put-text-requires
-put-text-requires c κs = search needs
+put-within-requires : tie.Need-put-within-requires
+put-within-requires c κs =
+    let a = c .before .before .before .before .before .before .before .before .before .before .before .before .before .args in
+    let q = c .before .before .before .before .before .before .before .before .before .before .before .before .before .pre .0 in
+    let z = inner-end (a .work .now) (a .w) (q .0) (a .from) (a .size) (q .1) in
+    ((omega (arith, z), apart-on (inner-apart (a .work .now) (a .w) (q .0) (a .from) (a .size) (q .1)) (c .before .before .before .before .before .before .put-sign-in .ensures .appends .grows)), (search needs, search needs))
 
 same-length : tie.Need-same-length
 same-length c = search needs
@@ -33,19 +44,23 @@ same-length-2 : tie.Need-same-length-2
 same-length-2 c = search needs
 
 returns-2 : tie.Need-returns-2
-returns-2 c = let a = c .before .before .before .before .before .before .before .before .before .before .before .before .before .before .before .before .before .before .before .args in appends-as (an-id (a .s .now) (a .from) (a .size) (c .before .before .before .before .before .before .before .before .before .before .before .before .before .before .before .before .before .before .before .pre) (c .before .before .before .before .before .before .before .before .before .before .before .before .before .before .before .if1 .left)) (appends-then (c .before .before .before .before .before .before .before .before .before .before .before .before .put-sign .ensures) (c .before .before .before .before .put-text .ensures))
+returns-2 c =
+    let a = c .before .before .before .before .before .before .before .before .before .before .before .before .before .before .before .before .before .before .args in
+    let q = c .before .before .before .before .before .before .before .before .before .before .before .before .before .before .before .before .before .before .pre .0 in
+    let p = c .before .before .before .before .before .before .before .before .before .before .before .put-sign-in .ensures in
+    let l = said-length (a .work .now) (a .w) (q .0) in
+    let i : ℕ = a .w .from + a .from in
+    appendsIn-as (an-id (said (a .w) (a .work .now)) (a .from) (a .size) (omega (arith, l, q .1)) (c .before .before .before .before .before .before .before .before .before .before .before .before .before .before .before .if1 .left)) (appendsIn-then p (appendsIn-as (ap written (apart-cut i (i + a .size) (inner-apart (a .work .now) (a .w) (q .0) (a .from) (a .size) (q .1)) p ∙ inner-cut (a .work .now) (a .w) (q .0) (a .from) (a .size) (q .1))) (c .before .before .before .before .put-within .ensures)))
 
 pub put-id-spec : {M : Type 1} → statement M
 put-id-spec =
     tie.close
     (tie.spec
     returns
-    add-end
-    put-sign-requires
-    sub-put-text
-    part-put-text-start
-    part-put-text-end
-    put-text-requires
+    add-i
+    put-sign-in-requires
+    add-put-within
+    put-within-requires
     same-length
     same-length-2
     returns-2)

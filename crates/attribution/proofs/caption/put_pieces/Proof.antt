@@ -1,7 +1,20 @@
 use borrow.Author.Needs.{needs}
-use Prim.Native.Nat.{_-_}
-use Rattle.attribution.proofs.Captioning.{appends-as, kept-within, caption-is}
-use Rattle.text.proofs.Writing.{appends-then}
+use native.Mathlib.Omega.{arith}
+use mathlib.Core.Path.{_≡_, sym, ap}
+use Prim.Native.Nat.{ℕ, _-_}
+use mathlib.Core.List.{List, []}
+use lib.ListN.{length}
+use mathlib.Core.Path.{subst}
+use Rattle.attribution.specs.Spoken.{said}
+use Rattle.attribution_parts.specs.Attribution.{spaced, within, date, id}
+use Rattle.attribution_parts.specs.Parts.{parts}
+use Rattle.attribution_losses.specs.Lists.{Told}
+use Rattle.text.specs.Writes.{cut}
+use Rattle.text.specs.Ascii.{ascii}
+use Rattle.text.specs.Cells.{written}
+use Rattle.text.proofs.Areas.{appendsIn-as, appendsIn-then}
+use Rattle.attribution.proofs.Speaking.{cut-length, said-length, said-on, spoken-on}
+use Rattle.attribution.proofs.Captioning.{kept-within, caption-is}
 use Rattle.attribution.proofs.caption.put_pieces.Statement.{statement}
 use Rattle.attribution.proofs.caption.put_pieces.Tie as tie
 
@@ -11,17 +24,33 @@ is-dated-requires c κs = search needs
 has-more-requires : tie.Need-has-more-requires
 has-more-requires c κs = search needs
 
-name-requires : tie.Need-name-requires
-name-requires c κs = let a = c .before .before .before .before .before .before .before .args in let t = c .before .before .before .before .before .before .before .pre in (t .0 .fields .name .inside, kept-within (a .s .now) (a .fields) (a .day) (a .ends) (t .0) (a .joined .now) (t .1))
+name-at-requires : tie.Need-name-at-requires
+name-at-requires c κs =
+    let a = c .before .before .before .before .before .before .args in
+    let q = c .before .before .before .before .before .before .pre .0 in
+    let l = said-length (a .work .now) (a .w) (q .0) in
+    let m = cut-length (a .w .joined) (a .w .past) (a .work .now) (q .0 .joined-inside) in
+    ((q .0 .order, (q .0 .inside, (q .0 .joined-order, q .0 .joined-inside))), (omega (arith, l, q .1 .fields .name .inside), λ z. let k = kept-within (said (a .w) (a .work .now)) (a .fields) (a .day) (a .ends) (q .1) (cut (a .w .joined) (a .w .past) (a .work .now)) (q .0 .joins) z in omega (arith, m, k)))
 
-put-text-requires : tie.Need-put-text-requires
-put-text-requires c κs = search needs
+sub-n : tie.Need-sub-n
+sub-n c = search needs
+
+put-within-requires : tie.Need-put-within-requires
+put-within-requires c κs =
+    let a = c .before .before .before .before .before .before .before .before .before .args in
+    let q = c .before .before .before .before .before .before .before .before .before .pre .0 in
+    let n = c .before .before .name-at .ensures in
+    ((n .inside, n .apart (a .at .0) (a .end) (q .0 .apart) (q .0 .joined-apart)), (search needs, search needs))
 
 put-gap-requires : tie.Need-put-gap-requires
 put-gap-requires c κs = search needs
 
 put-rest-requires : tie.Need-put-rest-requires
-put-rest-requires c κs = search needs
+put-rest-requires c κs =
+    let a = c .before .before .before .before .before .before .before .before .before .before .before .before .before .before .before .before .before .before .before .before .before .before .before .args in
+    let q = c .before .before .before .before .before .before .before .before .before .before .before .before .before .before .before .before .before .before .before .before .before .before .before .pre .0 in
+    let p = appendsIn-then (c .before .before .before .before .before .before .before .before .before .before .before .before .before .put-within .ensures) (c .before .before .before .before .before .before .put-gap .ensures) in
+    ((spoken-on p (q .0) (search needs), subst (λ (x : List ℕ). Told x (a .fields) (a .day) (a .ends)) (sym (said-on p (q .0))) (q .1)), (omega (arith, c .before .before .before .before .before .before .before .before .before .before .before .before .before .before .before .before .before .before .before .before .before .before .before .pre .1 .0), omega (arith, c .before .before .before .before .before .before .before .before .before .before .before .before .before .before .before .before .before .before .before .before .before .before .before .pre .1 .1)))
 
 same-length : tie.Need-same-length
 same-length c = search needs
@@ -30,7 +59,14 @@ same-length-2 : tie.Need-same-length-2
 same-length-2 c = search needs
 
 returns : tie.Need-returns
-returns c = let a = c .before .before .before .before .before .before .before .before .before .before .before .before .before .before .before .before .before .before .before .before .before .before .before .before .before .before .before .before .before .args in let t = c .before .before .before .before .before .before .before .before .before .before .before .before .before .before .before .before .before .before .before .before .before .before .before .before .before .before .before .before .before .pre in appends-as (caption-is (a .s .now) (a .fields) (a .day) (a .ends) (t .0) (a .joined .now) (t .1) _ _ _ (c .before .before .before .before .before .before .before .before .before .before .before .before .before .before .before .before .before .before .before .before .before .name .ensures) (c .before .before .before .before .before .before .before .before .before .before .before .before .before .before .before .before .before .before .before .before .before .before .before .is-dated .ensures) (c .before .before .before .before .before .before .before .before .before .before .before .before .before .before .before .before .before .before .before .before .before .before .has-more .ensures)) (appends-then (appends-then (c .before .before .before .before .before .before .before .before .before .before .before .before .before .before .before .before .before .before .put-text .ensures) (c .before .before .before .before .before .before .before .before .before .before .before .put-gap .ensures)) (c .before .before .before .before .put-rest .ensures))
+returns c =
+    let a = c .before .before .before .before .before .before .before .before .before .before .before .before .before .before .before .before .before .before .before .before .before .before .before .before .before .before .before .before .args in
+    let q = c .before .before .before .before .before .before .before .before .before .before .before .before .before .before .before .before .before .before .before .before .before .before .before .before .before .before .before .before .pre .0 in
+    let n = c .before .before .before .before .before .before .before .before .before .before .before .before .before .before .before .before .before .before .before .before .before .name-at .ensures in
+    let p = appendsIn-then (c .before .before .before .before .before .before .before .before .before .before .before .before .before .before .before .before .before .before .put-within .ensures) (c .before .before .before .before .before .before .before .before .before .before .before .put-gap .ensures) in
+    let m : length (cut (c .before .before .before .before .before .before .before .before .before .before .before .before .before .before .before .before .before .before .before .before .before .name-at .result .from) (c .before .before .before .before .before .before .before .before .before .before .before .before .before .before .before .before .before .before .before .before .before .name-at .result .to) (a .work .now)) ≡ c .before .before .before .before .before .before .before .before .before .before .before .before .before .before .before .before .before .before .before .before .before .name-at .result .to - c .before .before .before .before .before .before .before .before .before .before .before .before .before .before .before .before .before .before .before .before .before .name-at .result .from = cut-length _ _ (a .work .now) (n .inside) in
+    let k = caption-is (said (a .w) (a .work .now)) (a .fields) (a .day) (a .ends) (q .1) (cut (a .w .joined) (a .w .past) (a .work .now)) (q .0 .joins) _ _ _ (n .words) (c .before .before .before .before .before .before .before .before .before .before .before .before .before .before .before .before .before .before .before .before .before .before .before .before .is-dated .ensures) (c .before .before .before .before .before .before .before .before .before .before .before .before .before .before .before .before .before .before .before .before .before .before .before .has-more .ensures) in
+    appendsIn-as (rw m at k) (appendsIn-then p (appendsIn-as (ap (λ (x : List ℕ). written (spaced (within (ascii "(") (date (parts 0 x)) (ascii ")")) (within (ascii "#") (id (parts 0 x)) []))) (said-on p (q .0))) (c .before .before .before .before .put-rest .ensures)))
 
 pub put-pieces-spec : {M : Type 1} → statement M
 put-pieces-spec =
@@ -38,8 +74,9 @@ put-pieces-spec =
     (tie.spec
     is-dated-requires
     has-more-requires
-    name-requires
-    put-text-requires
+    name-at-requires
+    sub-n
+    put-within-requires
     put-gap-requires
     put-rest-requires
     same-length

@@ -1,18 +1,20 @@
 use borrow.Author.Needs.{needs}
-use Prim.Native.Nat.{_-_}
-use Rattle.attribution.proofs.Captioning.{appends-as, second-is}
-use Rattle.text.proofs.Writing.{appends-then}
+use mathlib.Core.Path.{ap}
+use Rattle.attribution.proofs.Captioning.{second-is}
+use Rattle.text.proofs.Areas.{appendsIn-as, appendsIn-then, apart-on, apart-cut}
+use Rattle.text.specs.Cells.{written}
 use Rattle.attribution.proofs.caption.put_second.Statement.{statement}
 use Rattle.attribution.proofs.caption.put_second.Tie as tie
 
-put-requires : tie.Need-put-requires
-put-requires c κs = search needs
+put-in-requires : tie.Need-put-in-requires
+put-in-requires c κs = search needs
 
-put-text-requires : tie.Need-put-text-requires
-put-text-requires c κs = search needs
+put-within-requires : tie.Need-put-within-requires
+put-within-requires c κs =
+    ((search needs, apart-on (c .before .before .before .before .before .before .before .before .before .before .before .pre .0 .1) (c .before .before .before .before .before .before .put-in .ensures .appends .grows)), (search needs, search needs))
 
-put-sign-requires : tie.Need-put-sign-requires
-put-sign-requires c κs = search needs
+put-sign-in-requires : tie.Need-put-sign-in-requires
+put-sign-in-requires c κs = search needs
 
 same-length : tie.Need-same-length
 same-length c = search needs
@@ -21,9 +23,18 @@ same-length-2 : tie.Need-same-length-2
 same-length-2 c = search needs
 
 returns : tie.Need-returns
-returns c = appends-as (second-is _) (appends-then (appends-then (c .before .before .before .before .before .before .before .before .before .before .before .before .before .before .before .before .before .before .put .ensures) (c .before .before .before .before .before .before .before .before .before .before .before .put-text .ensures)) (c .before .before .before .before .put-sign .ensures))
+returns c =
+    let s = c .before .before .before .before .before .before .before .before .before .before .before .before .before .before .before .before .before .before .before .before .before .before .before in
+    let p = c .before .before .before .before .before .before .before .before .before .before .before .before .before .before .before .before .before .before .put-in .ensures in
+    appendsIn-as (second-is _) (appendsIn-then (appendsIn-then p (appendsIn-as (ap written (apart-cut (s .args .i) (s .args .j) (s .pre .0 .1) p)) (c .before .before .before .before .before .before .before .before .before .before .before .put-within .ensures))) (c .before .before .before .before .put-sign-in .ensures))
 
 pub put-second-spec : {M : Type 1} → statement M
 put-second-spec =
     tie.close
-    (tie.spec put-requires put-text-requires put-sign-requires same-length same-length-2 returns)
+    (tie.spec
+    put-in-requires
+    put-within-requires
+    put-sign-in-requires
+    same-length
+    same-length-2
+    returns)

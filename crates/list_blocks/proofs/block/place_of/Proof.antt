@@ -5,14 +5,14 @@ use Rattle.list_blocks.proofs.BlockLaws.{head-here, head-none}
 use Rattle.list_blocks.proofs.block.place_of.Statement.{statement}
 use Rattle.list_blocks.proofs.block.place_of.Tie as tie
 
-mul-result : tie.Need-mul-result
-mul-result c = search needs
+mul-t8 : tie.Need-mul-t8
+mul-t8 c = search needs
 
-shared-slice-read-result : tie.Need-shared-slice-read-result
-shared-slice-read-result c = search needs
+shared-slice-read-t10 : tie.Need-shared-slice-read-t10
+shared-slice-read-t10 c = search needs
 
-cast-result : tie.Need-cast-result
-cast-result c = omega (arith, c .shared-slice-known .given (c .before .before .args .k))
+cast-t11 : tie.Need-cast-t11
+cast-t11 c = omega (arith, c .shared-slice-known .given (c .before .before .args .k .0))
 
 returns : tie.Need-returns
 returns c = head-here _ _ _ _ (c .before .if1 .taken) (c .before .before .pre)
@@ -21,5 +21,4 @@ returns-2 : tie.Need-returns-2
 returns-2 c = head-none _ _ _ _ (c .if1 .left)
 
 pub place-of-spec : {M : Type 1} → statement M
-place-of-spec =
-    tie.close (tie.spec mul-result shared-slice-read-result cast-result returns returns-2)
+place-of-spec = tie.close (tie.spec mul-t8 shared-slice-read-t10 cast-t11 returns returns-2)

@@ -1,27 +1,27 @@
 use borrow.Author.Needs.{needs}
 use mathlib.Core.Path.{_≡_, refl}
 use Prim.Native.Nat.{_-_, _≤_}
-use lib.ListN.{length}
-use lib.ListN.{replicate}
 use native.Mathlib.Nat.{le-antisymm}
-use Rattle.list_blocks.proofs.Markers.{again-turn}
-use Rattle.text.proofs.Writing.{appends-none}
-use Rattle.text.specs.Writes.{Appends}
-use Rattle.text.specs.Cells.{cells, feed}
+use lib.ListN.{length, replicate}
+use Rattle.text.specs.Cells.{feed}
+use Rattle.text.specs.Writes.{AppendsIn}
+use Rattle.text.proofs.Areas.{appendsIn-none}
+use Rattle.list_blocks.proofs.Kept.{again-in}
 use Rattle.list_blocks.proofs.item.put_feeds.Statement.{statement}
 use Rattle.list_blocks.proofs.item.put_feeds.Tie as tie
 
 abbrev Inv-loop : tie.InvT-loop
-Inv-loop n buf₀ nums₀ k₀ to₀ buf nums k to = (k ≤ n) × (length buf ≡ length buf₀) × (length nums ≡ length nums₀) × Appends (cells buf₀ nums₀) (to₀ .0) (cells buf nums) (to .0) (replicate k feed)
+Inv-loop n work₀ numbers₀ end k₀ to₀ work numbers k to =
+    (k ≤ n) × (length work ≡ length work₀) × (length numbers ≡ length numbers₀) × AppendsIn work₀ numbers₀ end (to₀ .0) work numbers (to .0) (replicate k feed)
 
 abbrev μ-loop : tie.MeasureT-loop
-μ-loop n buf₀ nums₀ k₀ to₀ buf nums k to = n - k
+μ-loop n work₀ numbers₀ end k₀ to₀ work numbers k to = n - k
 
 loop-holds : tie.Need-loop-holds Inv-loop μ-loop
-loop-holds c = (search needs, refl, refl, appends-none _ _)
+loop-holds c = (search needs, refl, refl, appendsIn-none _ _ _ _)
 
-put-feed-requires : tie.Need-put-feed-requires Inv-loop μ-loop
-put-feed-requires c κs = search needs
+put-feed-in-requires : tie.Need-put-feed-in-requires Inv-loop μ-loop
+put-feed-in-requires c κs = search needs
 
 add-k : tie.Need-add-k Inv-loop μ-loop
 add-k c = search needs
@@ -30,7 +30,7 @@ loop-less : tie.Need-loop-less Inv-loop μ-loop
 loop-less c = search needs
 
 loop-again : tie.Need-loop-again Inv-loop μ-loop
-loop-again c = let l = c .before .before .before .before .before .before .before .before .loop in (search needs, search needs, search needs, again-turn (l .k) feed (l .inv .3) (c .before .before .before .before .put-feed .ensures))
+loop-again c = let l = c .before .before .before .before .before .before .before .before .loop in (search needs, search needs, search needs, again-in (l .k) feed (l .inv .3) (c .before .before .before .before .put-feed-in .ensures))
 
 same-length : tie.Need-same-length Inv-loop μ-loop
 same-length c = search needs
@@ -48,7 +48,7 @@ put-feeds-spec =
     Inv-loop
     μ-loop
     loop-holds
-    put-feed-requires
+    put-feed-in-requires
     add-k
     loop-less
     loop-again

@@ -3,26 +3,35 @@ use native.Mathlib.Omega.{arith}
 use mathlib.Core.Path.{_≡_, refl}
 use Prim.Native.Nat.{_-_}
 use lib.ListN.{length}
-use Rattle.list_blocks.proofs.ItemWriting.{laterFrom, later-turn, later-done}
-use Rattle.text.proofs.Writing.{Writing, start}
 use Rattle.text.specs.Cells.{cells}
+use Rattle.text.proofs.Areas.{WritingIn, startIn}
+use Rattle.list_blocks.proofs.ItemWriting.{laterFrom}
+use Rattle.list_blocks.proofs.Kept.{later-turn-in, later-done-in}
 use Rattle.list_blocks.proofs.item.put_later_lines.Statement.{statement}
 use Rattle.list_blocks.proofs.item.put_later_lines.Tie as tie
 
 abbrev Inv-loop : tie.InvT-loop
-Inv-loop src from width buf₀ nums₀ end i₀ to₀ buf nums i to = (length buf ≡ length buf₀) × (length nums ≡ length nums₀) × Writing (cells buf₀ nums₀) (to₀ .0) (cells buf nums) (to .0) (laterFrom width i end (cells src from)) (laterFrom width i₀ end (cells src from))
+Inv-loop work₀ numbers₀ e width end last i₀ to₀ work numbers i to =
+    (length work ≡ length work₀) × (length numbers ≡ length numbers₀)
+    × WritingIn work₀ numbers₀ end (to₀ .0) work numbers (to .0) (laterFrom width i (e .0) (cells work₀ numbers₀)) (laterFrom width i₀ (e .0) (cells work₀ numbers₀))
 
 abbrev μ-loop : tie.MeasureT-loop
-μ-loop src from width buf₀ nums₀ end i₀ to₀ buf nums i to = end - i
+μ-loop work₀ numbers₀ e width end last i₀ to₀ work numbers i to = last - i
 
 loop-holds : tie.Need-loop-holds Inv-loop μ-loop
-loop-holds c = (refl, refl, start _ _ _)
+loop-holds c =
+    (refl, refl, startIn _ _ _ _ _)
 
 line-end-requires : tie.Need-line-end-requires Inv-loop μ-loop
 line-end-requires c κs = search needs
 
 put-later-requires : tie.Need-put-later-requires Inv-loop μ-loop
-put-later-requires c κs = search needs
+put-later-requires c κs =
+    let s = c .before .before .before .before .before .before .before .before .before in
+    let w : WritingIn _ _ _ _ _ _ _ _ _ = c .before .before .before .before .before .before .loop .inv .2 in
+    let j = c .before .before .line-end .ensures in
+    let g = w .wrote .appends .grows in
+    ((j .0, omega (arith, j .1 .0, s .pre .0, g)), (omega (arith, j .1 .0, s .pre .1 .0), (search needs, search needs)))
 
 add-i : tie.Need-add-i Inv-loop μ-loop
 add-i c = search needs
@@ -31,7 +40,11 @@ loop-less : tie.Need-loop-less Inv-loop μ-loop
 loop-less c = search needs
 
 loop-again : tie.Need-loop-again Inv-loop μ-loop
-loop-again c = let l = c .before .before .before .before .before .before .before .before .before .loop in (search needs, search needs, later-turn _ (l .i) _ _ _ (c .before .before .before .before .before .before .before .line-end .ensures .1 .1) (l .inv .2) (c .before .before .before .before .put-later .ensures))
+loop-again c =
+    let s = c .before .before .before .before .before .before .before .before .before .before .before .before .before .before in
+    let l = c .before .before .before .before .before .before .before .before .before .before .before .loop in
+    let j = c .before .before .before .before .before .before .before .line-end .ensures in
+    (search needs, search needs, later-turn-in (s .args .width) (l .i) (c .before .before .before .before .before .before .before .line-end .result .0) (s .args .e .0) (s .pre .0) (j .1 .0) (j .1 .1) (l .inv .2) (c .before .before .before .before .put-later .ensures))
 
 same-length : tie.Need-same-length Inv-loop μ-loop
 same-length c = search needs
@@ -40,7 +53,8 @@ same-length-2 : tie.Need-same-length-2 Inv-loop μ-loop
 same-length-2 c = search needs
 
 returns : tie.Need-returns Inv-loop μ-loop
-returns c = let l = c .before .loop in later-done _ (l .i) _ _ (omega arith) (l .inv .2)
+returns c =
+    let l = c .before .loop in later-done-in _ (l .i) _ _ (omega arith) (l .inv .2)
 
 pub put-later-lines-spec : {M : Type 1} → statement M
 put-later-lines-spec =

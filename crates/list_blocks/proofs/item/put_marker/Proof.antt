@@ -1,6 +1,5 @@
 use borrow.Author.Needs.{needs}
-use Prim.Native.Nat.{_-_}
-use Rattle.list_blocks.proofs.Markers.{marker-plain, marker-ordered}
+use Rattle.list_blocks.proofs.Kept.{plain-in, ordered-in}
 use Rattle.list_blocks.proofs.item.put_marker.Statement.{statement}
 use Rattle.list_blocks.proofs.item.put_marker.Tie as tie
 
@@ -10,11 +9,11 @@ put-decimal-requires c κs = search needs
 marker-sign-requires : tie.Need-marker-sign-requires
 marker-sign-requires c κs = search needs
 
-put-sign-requires : tie.Need-put-sign-requires
-put-sign-requires c κs = search needs
+put-sign-in-requires : tie.Need-put-sign-in-requires
+put-sign-in-requires c κs = search needs
 
-put-requires : tie.Need-put-requires
-put-requires c κs = search needs
+put-in-requires : tie.Need-put-in-requires
+put-in-requires c κs = search needs
 
 same-length : tie.Need-same-length
 same-length c = search needs
@@ -23,16 +22,17 @@ same-length-2 : tie.Need-same-length-2
 same-length-2 c = search needs
 
 returns : tie.Need-returns
-returns c = marker-ordered _ _ _ (c .before .before .before .before .before .before .before .before .before .before .before .before .before .before .before .before .before .before .before .before .before .before .if1 .taken) (c .before .before .before .before .before .before .before .before .before .before .before .before .marker-sign .ensures) (c .before .before .before .before .before .before .before .before .before .before .before .before .before .before .before .before .before .before .before .put-decimal .ensures) (c .before .before .before .before .before .before .before .before .before .before .before .put-sign .ensures) (c .before .before .before .before .put .ensures)
+returns c =
+    ordered-in _ _ _ (c .before .before .before .before .before .before .before .before .before .before .before .before .before .before .before .before .before .before .before .before .before .before .if1 .taken) (c .before .before .before .before .before .before .before .before .before .before .before .before .marker-sign .ensures) (c .before .before .before .before .before .before .before .before .before .before .before .before .before .before .before .before .before .before .before .put-decimal .ensures) (c .before .before .before .before .before .before .before .before .before .before .before .put-sign-in .ensures) (c .before .before .before .before .put-in .ensures)
 
 marker-sign-requires-2 : tie.Need-marker-sign-requires-2
 marker-sign-requires-2 c κs = search needs
 
-put-sign-requires-2 : tie.Need-put-sign-requires-2
-put-sign-requires-2 c κs = search needs
+put-sign-in-requires-2 : tie.Need-put-sign-in-requires-2
+put-sign-in-requires-2 c κs = search needs
 
-put-requires-2 : tie.Need-put-requires-2
-put-requires-2 c κs = search needs
+put-in-requires-2 : tie.Need-put-in-requires-2
+put-in-requires-2 c κs = search needs
 
 same-length-3 : tie.Need-same-length-3
 same-length-3 c = search needs
@@ -41,7 +41,8 @@ same-length-4 : tie.Need-same-length-4
 same-length-4 c = search needs
 
 returns-2 : tie.Need-returns-2
-returns-2 c = marker-plain _ _ _ (c .before .before .before .before .before .before .before .before .before .before .before .before .before .before .before .if1 .left) (c .before .before .before .before .before .before .before .before .before .before .before .before .marker-sign2 .ensures) (c .before .before .before .before .before .before .before .before .before .before .before .put-sign2 .ensures) (c .before .before .before .before .put2 .ensures)
+returns-2 c =
+    plain-in _ _ _ (c .before .before .before .before .before .before .before .before .before .before .before .before .before .before .before .if1 .left) (c .before .before .before .before .before .before .before .before .before .before .before .before .marker-sign2 .ensures) (c .before .before .before .before .before .before .before .before .before .before .before .put-sign-in2 .ensures) (c .before .before .before .before .put-in2 .ensures)
 
 pub put-marker-spec : {M : Type 1} → statement M
 put-marker-spec =
@@ -49,14 +50,14 @@ put-marker-spec =
     (tie.spec
     put-decimal-requires
     marker-sign-requires
-    put-sign-requires
-    put-requires
+    put-sign-in-requires
+    put-in-requires
     same-length
     same-length-2
     returns
     marker-sign-requires-2
-    put-sign-requires-2
-    put-requires-2
+    put-sign-in-requires-2
+    put-in-requires-2
     same-length-3
     same-length-4
     returns-2)

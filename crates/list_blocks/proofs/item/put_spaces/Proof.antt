@@ -1,28 +1,27 @@
 use borrow.Author.Needs.{needs}
 use mathlib.Core.Path.{_≡_, refl}
 use Prim.Native.Nat.{_-_, _≤_}
-use lib.ListN.{length}
-use lib.ListN.{replicate}
 use native.Mathlib.Nat.{le-antisymm}
-use Rattle.list_blocks.proofs.Markers.{again-turn}
+use lib.ListN.{length, replicate}
+use Rattle.text.specs.Writes.{AppendsIn}
+use Rattle.text.proofs.Areas.{appendsIn-none}
 use Rattle.list_blocks.specs.Blocks.{space}
-use Rattle.text.proofs.Writing.{appends-none}
-use Rattle.text.specs.Writes.{Appends}
-use Rattle.text.specs.Cells.{cells}
+use Rattle.list_blocks.proofs.Kept.{again-in}
 use Rattle.list_blocks.proofs.item.put_spaces.Statement.{statement}
 use Rattle.list_blocks.proofs.item.put_spaces.Tie as tie
 
 abbrev Inv-loop : tie.InvT-loop
-Inv-loop n buf₀ nums₀ k₀ to₀ buf nums k to = (k ≤ n) × (length buf ≡ length buf₀) × (length nums ≡ length nums₀) × Appends (cells buf₀ nums₀) (to₀ .0) (cells buf nums) (to .0) (replicate k space)
+Inv-loop n work₀ numbers₀ end k₀ to₀ work numbers k to =
+    (k ≤ n) × (length work ≡ length work₀) × (length numbers ≡ length numbers₀) × AppendsIn work₀ numbers₀ end (to₀ .0) work numbers (to .0) (replicate k space)
 
 abbrev μ-loop : tie.MeasureT-loop
-μ-loop n buf₀ nums₀ k₀ to₀ buf nums k to = n - k
+μ-loop n work₀ numbers₀ end k₀ to₀ work numbers k to = n - k
 
 loop-holds : tie.Need-loop-holds Inv-loop μ-loop
-loop-holds c = (search needs, refl, refl, appends-none _ _)
+loop-holds c = (search needs, refl, refl, appendsIn-none _ _ _ _)
 
-put-requires : tie.Need-put-requires Inv-loop μ-loop
-put-requires c κs = search needs
+put-in-requires : tie.Need-put-in-requires Inv-loop μ-loop
+put-in-requires c κs = search needs
 
 add-k : tie.Need-add-k Inv-loop μ-loop
 add-k c = search needs
@@ -31,7 +30,7 @@ loop-less : tie.Need-loop-less Inv-loop μ-loop
 loop-less c = search needs
 
 loop-again : tie.Need-loop-again Inv-loop μ-loop
-loop-again c = let l = c .before .before .before .before .before .before .before .before .loop in (search needs, search needs, search needs, again-turn (l .k) space (l .inv .3) (c .before .before .before .before .put .ensures))
+loop-again c = let l = c .before .before .before .before .before .before .before .before .loop in (search needs, search needs, search needs, again-in (l .k) space (l .inv .3) (c .before .before .before .before .put-in .ensures))
 
 same-length : tie.Need-same-length Inv-loop μ-loop
 same-length c = search needs
@@ -49,7 +48,7 @@ put-spaces-spec =
     Inv-loop
     μ-loop
     loop-holds
-    put-requires
+    put-in-requires
     add-k
     loop-less
     loop-again

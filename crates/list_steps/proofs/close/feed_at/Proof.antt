@@ -15,10 +15,10 @@ shared-slice-read-parent : tie.Need-shared-slice-read-parent
 shared-slice-read-parent c = search needs
 
 cast-parent : tie.Need-cast-parent
-cast-parent c = omega (arith, c .shared-slice-known3 .given (c .before .before .before .args .first))
+cast-parent c = omega (arith, c .shared-slice-known3 .given (c .before .before .before .args .first .0))
 
 add-if1 : tie.Need-add-if1
-add-if1 c = omega (arith, c .shared-slice-known3 .given (c .before .before .before .args .first))
+add-if1 c = omega (arith, c .shared-slice-known3 .given (c .before .before .before .args .first .0))
 
 returns : tie.Need-returns
 returns c = feed-lead _ _ _ (c .if1 .taken)
@@ -33,7 +33,7 @@ shared-slice-read-outer : tie.Need-shared-slice-read-outer
 shared-slice-read-outer c = search needs
 
 cast-outer : tie.Need-cast-outer
-cast-outer c = omega (arith, c .shared-slice-known4 .given (c .before .before .before .before .before .args .first - 1))
+cast-outer c = omega (arith, c .shared-slice-known4 .given (c .before .before .before .before .before .args .first .0 - 1))
 
 add-start : tie.Need-add-start
 add-start c = search needs
@@ -69,10 +69,10 @@ is-feed-requires : tie.Need-is-feed-requires
 is-feed-requires c κs = search needs
 
 returns-3 : tie.Need-returns-3
-returns-3 c = let x = c .before .before .before .before .before .before .before .before .before .before .before .args in let p = c .before .before .before .before .before .before .before .before .before .before .before .pre in feed-some _ _ (x .first) (omega (arith, c .before .before .before .before .before .before .before .if1 .left)) (getD (x .numbers .now) (x .first + 2) 0 - 1) (omega (arith, c .before .before .before .before .if2 .left)) (omega (arith, c .before .before .before .before .if2 .left)) (p .1 .1 .0) (p .1 .1 .1 .0) true (sym (c .if3 .taken) ∙ c .before .is-feed .ensures)
+returns-3 c = let x = c .before .before .before .before .before .before .before .before .before .before .before .args in let p = c .before .before .before .before .before .before .before .before .before .before .before .pre in feed-some _ _ (x .first .0) (omega (arith, c .before .before .before .before .before .before .before .if1 .left)) (getD (x .numbers .now) (x .first .0 + 2) 0 - 1) (omega (arith, c .before .before .before .before .if2 .left)) (omega (arith, c .before .before .before .before .if2 .left)) (p .1 .1 .0) (p .1 .1 .1 .0) true (sym (c .if3 .taken) ∙ c .before .is-feed .ensures)
 
 returns-4 : tie.Need-returns-4
-returns-4 c = let x = c .before .before .before .before .before .before .before .before .before .before .before .args in let p = c .before .before .before .before .before .before .before .before .before .before .before .pre in feed-some _ _ (x .first) (omega (arith, c .before .before .before .before .before .before .before .if1 .left)) (getD (x .numbers .now) (x .first + 2) 0 - 1) (omega (arith, c .before .before .before .before .if2 .left)) (omega (arith, c .before .before .before .before .if2 .left)) (p .1 .1 .0) (p .1 .1 .1 .0) false (sym (c .if3 .left) ∙ c .before .is-feed .ensures)
+returns-4 c = let x = c .before .before .before .before .before .before .before .before .before .before .before .args in let p = c .before .before .before .before .before .before .before .before .before .before .before .pre in feed-some _ _ (x .first .0) (omega (arith, c .before .before .before .before .before .before .before .if1 .left)) (getD (x .numbers .now) (x .first .0 + 2) 0 - 1) (omega (arith, c .before .before .before .before .if2 .left)) (omega (arith, c .before .before .before .before .if2 .left)) (p .1 .1 .0) (p .1 .1 .1 .0) false (sym (c .if3 .left) ∙ c .before .is-feed .ensures)
 
 pub feed-at-spec : {M : Type 1} → statement M
 feed-at-spec =

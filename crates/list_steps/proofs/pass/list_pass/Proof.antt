@@ -3,26 +3,44 @@ use native.Mathlib.Omega.{arith}
 use mathlib.Core.Path.{_≡_, refl, sym, ap, _∙_}
 use Prim.Native.Nat.{_+_, _-_, _≤_}
 use mathlib.Core.List.{List}
-use lib.ListN.{length}
-use lib.ListN.{take}
-use Rattle.list_steps.proofs.Runs.{before-length}
-use Rattle.list_steps.proofs.Runs.{running-start, running-end, running-ready, turn-size, turn-reads, turn-left, turn-goes, turn-over, passed-full}
-use Rattle.list_steps.specs.Standing.{Running}
-use Rattle.list_blocks.specs.Tags.{tokens, deeper, tooDeep}
+use lib.ListN.{length, take}
+use Rattle.text.specs.Bounds.{deepMost}
 use Rattle.text.specs.Cells.{Cell, cells, part}
+use Rattle.list_blocks.specs.Tags.{tokens, pushes, deeper, tooDeep}
+use Rattle.list_steps.specs.Standing.{roomOf, RunningIn, StaysIn}
 use Rattle.list_steps.proofs.Depths.{deep-start, deep-over, deep-goes, deep-end}
-use borrow.Author.Tests.{lt-ltb, le-ltb}
+use Rattle.list_steps.proofs.Runs.{base-within, room, part-before, before-length, running-start, running-end, running-ready, turn-size, turn-reads, turn-left, turn-pushes, turn-goes, turn-over, passes-stopped, passes-ends}
+use Rattle.list_steps.proofs.Outside.{stays-none, stays-then, stays-cells}
 use Rattle.list_steps.proofs.pass.list_pass.Statement.{statement}
 use Rattle.list_steps.proofs.pass.list_pass.Tie as tie
 
 abbrev Inv-loop : tie.InvT-loop
-Inv-loop a e base end work₀ numbers₀ out₀ origins₀ st₀ depth₀ i₀ work numbers out origins st depth i = ((length work ≡ length work₀) × (length numbers ≡ length numbers₀) × (length out ≡ length out₀) × (length origins ≡ length origins₀)) × (a ≤ i) × (i ≤ e) × (st .at ≤ end) × (st .top + a ≤ end + i) × Running (length out₀) (part a e (cells work₀ numbers₀)) (take base (cells work₀ numbers₀)) work numbers end (st .at) (st .top) (st .first) (st .second) (tokens 0 (part i e (take base (cells work₀ numbers₀)))) × (depth ≤ 64) × (tooDeep (part a e (cells work₀ numbers₀)) ≡ deeper depth (tokens 0 (part i e (take base (cells work₀ numbers₀)))))
+Inv-loop e areas work₀ numbers₀ end last base st₀ seen₀ depth₀ i₀ work numbers st seen depth i =
+    ((length work ≡ length work₀) × (length numbers ≡ length numbers₀)) × (i ≤ e .0) × (st .at .0 ≤ areas .end .0) × (seen ≤ roomOf areas)
+    × (st .top .0 + pushes (tokens 0 (part i (e .0) (take (areas .base .0) (cells work₀ numbers₀)))) ≤ length numbers₀)
+    × RunningIn (part i₀ (e .0) (cells work₀ numbers₀)) (take (areas .base .0) (cells work₀ numbers₀)) areas seen work numbers st (tokens 0 (part i (e .0) (take (areas .base .0) (cells work₀ numbers₀))))
+    × (depth ≤ deepMost) × (tooDeep (part i₀ (e .0) (cells work₀ numbers₀)) ≡ deeper depth (tokens 0 (part i (e .0) (take (areas .base .0) (cells work₀ numbers₀)))))
+    × StaysIn areas work₀ numbers₀ work numbers
 
 abbrev μ-loop : tie.MeasureT-loop
-μ-loop a e base end work₀ numbers₀ out₀ origins₀ st₀ depth₀ i₀ work numbers out origins st depth i = e - i
+μ-loop e areas work₀ numbers₀ end last base st₀ seen₀ depth₀ i₀ work numbers st seen depth i = last - i
 
 loop-holds : tie.Need-loop-holds Inv-loop μ-loop
-loop-holds c = let p = c .before .before .before .before .pre in ((refl, refl, refl, refl), omega arith, p .0 .0, omega (arith, p .1 .0 .0), omega arith, running-start _ _ _ _ _ _ _ (p .0 .1 .0) (omega (arith, p .1 .0 .0)) (p .1 .1 .0) (omega (arith, p .1 .1 .1 .0)), omega arith, deep-start _ _ _ _ (p .0 .1 .0))
+loop-holds c =
+    let p = c .before .before .before .before .pre in
+    let x = c .before .before .before .before .args in
+    let z = p .1 .0 in
+    let k = room (x .areas .base .0) (x .areas .end .0) (x .areas .table .0) _ _ _ (z .0 .0) (z .0 .1) (z .1 .0) (p .1 .1) in (
+      (refl, refl),
+      p .0 .0,
+      z .0 .0,
+      omega arith,
+      rw (part-before (x .a .0) (x .e .0) (x .areas .base .0) (cells (x .work .now) (x .numbers .now)) (p .0 .1)) (p .1 .1),
+      running-start _ _ _ _ _ _ _ (p .0 .1) (z .0 .0) (k .1 .1 .0) (k .0) (k .1 .1 .1),
+      omega arith,
+      deep-start _ _ _ _ (p .0 .1),
+      stays-none _ _ _ _ _,
+    )
 
 sub-tag-at : tie.Need-sub-tag-at Inv-loop μ-loop
 sub-tag-at c = search needs
@@ -69,65 +87,170 @@ same-length c = search needs
 same-length-2 : tie.Need-same-length-2 Inv-loop μ-loop
 same-length-2 c = search needs
 
-same-length-3 : tie.Need-same-length-3 Inv-loop μ-loop
-same-length-3 c = search needs
-
-same-length-4 : tie.Need-same-length-4 Inv-loop μ-loop
-same-length-4 c = search needs
-
 returns : tie.Need-returns Inv-loop μ-loop
-returns c = let p = c .before .before .before .before .before .before .before .before .before .before .before .before .before .before .before .before .pre in let x = c .before .before .before .before .before .before .before .before .before .before .before .before .before .before .before .before .args in let l = c .before .before .before .before .before .before .before .before .before .before .before .loop in let v = l .inv in let n0 = v .0 in let lb = before-length (x .work .now) (x .numbers .now) (x .base) (x .end) (omega (arith, p .1 .0 .0)) (p .1 .1 .0) (omega (arith, p .1 .1 .1 .0)) in let y = turn-reads _ _ _ _ _ (x .base) _ _ _ _ _ (l .i) _ (v .5) lb (p .1 .0 .0) (v .3) (omega (arith, n0 .0, p .1 .1 .0)) (omega (arith, n0 .1, p .1 .1 .1 .0)) (c .before .before .before .before .before .before .before .before .before .before .loop-test .taken) (p .0 .1 .0) _ (c .before .before .before .before .before .tag-at .ensures) _ (c .before .before .rest-of .ensures) in (v .7 ∙ deep-over (part (l .i) (x .e) (take (x .base) (cells (x .work .now) (x .numbers .now)))) _ (y .0) (y .1 .0) (v .6) (omega (arith, c .if1 .taken, c .before .depth-after .ensures)) ∙ sym (lt-ltb 18446744073709551614 18446744073709551615 (omega arith)), λ h. absurd (omega (arith, h)))
+returns c =
+    let p = c .before .before .before .before .before .before .before .before .before .before .before .before .before .before .before .before .pre in
+    let x = c .before .before .before .before .before .before .before .before .before .before .before .before .before .before .before .before .args in
+    let l = c .before .before .before .before .before .before .before .before .before .before .before .loop in
+    let v = l .inv in
+    let z = p .1 .0 in
+    let k = room (x .areas .base .0) (x .areas .end .0) (x .areas .table .0) _ _ _ (z .0 .0) (z .0 .1) (z .1 .0) (p .1 .1) in
+    let lb = before-length (x .work .now) (x .numbers .now) (x .areas .base .0) (x .areas .end .0) (z .0 .0) (k .0) (k .1 .0) in
+    let y = turn-reads _ _ _ _ (x .areas .base .0) _ _ _ _ _ _ _ (l .i) _ (v .5) lb (v .2) (omega (arith, v .0 .0, k .0)) (omega (arith, v .0 .1, k .1 .0)) (c .before .before .before .before .before .before .before .before .before .before .loop-test .taken) (p .0 .1) _ (c .before .before .before .before .before .tag-at .ensures) _ (c .before .before .rest-of .ensures) in
+    (v .7 ∙ deep-over (part (l .i) (x .e .0) (take (x .areas .base .0) (cells (x .work .now) (x .numbers .now)))) _ (y .0) (y .1 .0) (v .6) (omega (arith, c .if1 .taken, c .before .depth-after .ensures)), v .8)
+
+sub-greater : tie.Need-sub-greater Inv-loop μ-loop
+sub-greater c =
+    let p = c .before .before .before .before .before .before .before .before .before .before .before .before .before .before .before .before .before .pre in
+    let x = c .before .before .before .before .before .before .before .before .before .before .before .before .before .before .before .before .before .args in
+    let l = c .before .before .before .before .before .before .before .before .before .before .before .before .loop in
+    let v = l .inv in
+    let z = p .1 .0 in
+    let k = room (x .areas .base .0) (x .areas .end .0) (x .areas .table .0) _ _ _ (z .0 .0) (z .0 .1) (z .1 .0) (p .1 .1) in
+    let lb = before-length (x .work .now) (x .numbers .now) (x .areas .base .0) (x .areas .end .0) (z .0 .0) (k .0) (k .1 .0) in
+    let b = base-within _ _ _ _ (x .areas .base .0) _ _ _ _ _ _ _ _ (v .5) lb (v .2) (omega (arith, v .0 .0, k .0)) (omega (arith, v .0 .1, k .1 .0)) in
+    omega (arith, b)
+
+greater-requires : tie.Need-greater-requires Inv-loop μ-loop
+greater-requires c κs = search needs
 
 step-requires : tie.Need-step-requires Inv-loop μ-loop
-step-requires c κs = let p = c .before .before .before .before .before .before .before .before .before .before .before .before .before .before .before .before .before .before .before .before .pre in let x = c .before .before .before .before .before .before .before .before .before .before .before .before .before .before .before .before .before .before .before .before .args in let l = c .before .before .before .before .before .before .before .before .before .before .before .before .before .before .before .loop in let v = l .inv in let n0 = v .0 in let lb = before-length (x .work .now) (x .numbers .now) (x .base) (x .end) (omega (arith, p .1 .0 .0)) (p .1 .1 .0) (omega (arith, p .1 .1 .1 .0)) in let s = turn-size _ _ _ _ _ (x .base) _ _ _ _ _ (l .i) _ (v .5) lb (p .1 .0 .0) (v .3) (omega (arith, n0 .0, p .1 .1 .0)) (omega (arith, n0 .1, p .1 .1 .1 .0)) (c .before .before .before .before .before .before .before .before .before .before .before .before .before .before .loop-test .taken) (p .0 .1 .0) _ (c .before .before .before .before .before .before .before .before .before .tag-at .ensures) _ (c .before .before .before .before .before .before .rest-of .ensures) in (running-ready _ _ _ _ _ (x .base) _ _ _ _ _ _ (v .5) lb (v .3) (omega (arith, n0 .0, p .1 .1 .0)) (omega (arith, n0 .1, p .1 .1 .1 .0)) (omega (arith, n0 .1, p .1 .1 .1 .1)) (omega (arith, v .4, v .1, v .2, p .0 .1 .1)), ((omega (arith, s .0, p .0 .1 .0), s .1 .0), (omega (arith, s .0, s .1 .1, v .4, v .1, n0 .1, p .1 .1 .1 .0), (omega (arith, n0 .2, p .1 .0 .0), omega (arith, n0 .2, n0 .3, p .1 .0 .1)))))
+step-requires c κs =
+    let p = c .before .before .before .before .before .before .before .before .before .before .before .before .before .before .before .before .before .before .before .before .pre in
+    let x = c .before .before .before .before .before .before .before .before .before .before .before .before .before .before .before .before .before .before .before .before .args in
+    let l = c .before .before .before .before .before .before .before .before .before .before .before .before .before .before .before .loop in
+    let v = l .inv in
+    let z = p .1 .0 in
+    let k = room (x .areas .base .0) (x .areas .end .0) (x .areas .table .0) _ _ _ (z .0 .0) (z .0 .1) (z .1 .0) (p .1 .1) in
+    let lb = before-length (x .work .now) (x .numbers .now) (x .areas .base .0) (x .areas .end .0) (z .0 .0) (k .0) (k .1 .0) in
+    let s = turn-size _ _ _ _ (x .areas .base .0) _ _ _ _ _ _ _ (l .i) _ (v .5) lb (v .2) (omega (arith, v .0 .0, k .0)) (omega (arith, v .0 .1, k .1 .0)) (c .before .before .before .before .before .before .before .before .before .before .before .before .before .before .loop-test .taken) (p .0 .1) _ (c .before .before .before .before .before .before .before .before .before .tag-at .ensures) _ (c .before .before .before .before .before .before .rest-of .ensures) in
+    let t = turn-pushes _ _ _ _ (x .areas .base .0) _ _ _ _ _ _ _ (l .i) _ (v .5) lb (v .2) (omega (arith, v .0 .0, k .0)) (omega (arith, v .0 .1, k .1 .0)) (c .before .before .before .before .before .before .before .before .before .before .before .before .before .before .loop-test .taken) (p .0 .1) _ (c .before .before .before .before .before .before .before .before .before .tag-at .ensures) _ (c .before .before .before .before .before .before .rest-of .ensures) in
+    (running-ready _ _ _ _ (x .areas .base .0) _ _ _ _ _ _ _ _ (v .5) lb (v .2) (omega (arith, v .0 .0, k .0)) (omega (arith, v .0 .1, k .1 .0)) (omega (arith, v .0 .1, z .1 .1)), ((omega (arith, s .0, p .0 .1), s .1 .0), (omega (arith, v .4, t, v .0 .1), (z .0, (omega (arith, v .0 .0, z .1 .0), omega (arith, v .0 .1, z .1 .1))))))
 
 stopped-requires : tie.Need-stopped-requires Inv-loop μ-loop
-stopped-requires c κs = let p = c .before .before .before .before .before .before .before .before .before .before .before .before .before .before .before .before .before .before .before .before .before .before .before .before .before .before .before .before .before .before .before .before .pre in let l = c .before .before .before .before .before .before .before .before .before .before .before .before .before .before .before .before .before .before .before .before .before .before .before .before .before .before .before .loop in let v = l .inv in let n0 = v .0 in let kw = c .before .before .before .before .before .before .before .before .before .before .before .step .kept .1 .1 .1 .1 .1 .1 .0 in let kn = c .before .before .before .before .before .before .before .before .before .before .before .step .kept .1 .1 .1 .1 .1 .1 .1 .0 in ((v .2, v .6), (omega (arith, kw, n0 .0, v .2, p .0 .1 .0, p .1 .0 .0, p .1 .1 .0), (omega (arith, kn, n0 .1, v .2, p .0 .1 .0, p .1 .0 .0, p .1 .1 .1 .0), omega (arith, kn, n0 .1, p .1 .1 .1 .1))))
+stopped-requires c κs =
+    let p = c .before .before .before .before .before .before .before .before .before .before .before .before .before .before .before .before .before .before .before .before .before .before .before .before .before .before .before .before .pre in
+    let l = c .before .before .before .before .before .before .before .before .before .before .before .before .before .before .before .before .before .before .before .before .before .before .before .loop in
+    let v = l .inv in
+    let z = p .1 .0 in
+    ((v .1, v .6), (omega (arith, c .before .before .before .before .before .before .work3 .given, v .0 .0, p .0 .1, z .0 .0, z .1 .0), (omega (arith, c .before .before .before .before .numbers2 .given, v .0 .1, p .0 .1, z .0, p .1 .1), omega (arith, c .before .before .before .before .numbers2 .given, v .0 .1, z .1 .1))))
 
-same-length-5 : tie.Need-same-length-5 Inv-loop μ-loop
-same-length-5 c = omega (arith, c .before .before .before .before .before .before .before .before .before .before .before .before .before .before .before .before .before .before .before .before .before .before .before .before .before .before .before .before .loop .inv .0 .0, c .before .before .before .before .before .before .before .before .before .before .before .before .step .kept .1 .1 .1 .1 .1 .1 .0)
+same-length-3 : tie.Need-same-length-3 Inv-loop μ-loop
+same-length-3 c = omega (arith, c .before .before .before .before .before .before .before .before .before .before .before .before .before .before .before .before .before .before .before .before .before .before .before .before .loop .inv .0 .0, c .before .before .before .before .before .before .before .work3 .given)
 
-same-length-6 : tie.Need-same-length-6 Inv-loop μ-loop
-same-length-6 c = omega (arith, c .before .before .before .before .before .before .before .before .before .before .before .before .before .before .before .before .before .before .before .before .before .before .before .before .before .before .before .before .loop .inv .0 .1, c .before .before .before .before .before .before .before .before .before .before .before .before .step .kept .1 .1 .1 .1 .1 .1 .1 .0)
-
-same-length-7 : tie.Need-same-length-7 Inv-loop μ-loop
-same-length-7 c = omega (arith, c .before .before .before .before .before .before .before .before .before .before .before .before .before .before .before .before .before .before .before .before .before .before .before .before .before .before .before .before .loop .inv .0 .2, c .before .before .before .before .before .before .before .before .before .before .before .before .step .kept .1 .1 .1 .1 .1 .1 .1 .1 .0)
-
-same-length-8 : tie.Need-same-length-8 Inv-loop μ-loop
-same-length-8 c = omega (arith, c .before .before .before .before .before .before .before .before .before .before .before .before .before .before .before .before .before .before .before .before .before .before .before .before .before .before .before .before .loop .inv .0 .3, c .before .before .before .before .before .before .before .before .before .before .before .before .step .kept .1 .1 .1 .1 .1 .1 .1 .1 .1 .0)
+same-length-4 : tie.Need-same-length-4 Inv-loop μ-loop
+same-length-4 c = omega (arith, c .before .before .before .before .before .before .before .before .before .before .before .before .before .before .before .before .before .before .before .before .before .before .before .before .loop .inv .0 .1, c .before .before .before .before .before .numbers2 .given)
 
 returns-2 : tie.Need-returns-2 Inv-loop μ-loop
-returns-2 c = let p = c .before .before .before .before .before .before .before .before .before .before .before .before .before .before .before .before .before .before .before .before .before .before .before .before .before .before .before .before .before .before .before .before .before .pre in let x = c .before .before .before .before .before .before .before .before .before .before .before .before .before .before .before .before .before .before .before .before .before .before .before .before .before .before .before .before .before .before .before .before .before .args in let l = c .before .before .before .before .before .before .before .before .before .before .before .before .before .before .before .before .before .before .before .before .before .before .before .before .before .before .before .before .loop in let v = l .inv in let n0 = v .0 in let lb = before-length (x .work .now) (x .numbers .now) (x .base) (x .end) (omega (arith, p .1 .0 .0)) (p .1 .1 .0) (omega (arith, p .1 .1 .1 .0)) in let r = c .stopped in (v .7 ∙ sym (ap (λ (z : List Cell). deeper (l .depth) (tokens 0 z)) (turn-left _ _ _ _ _ (x .base) _ _ _ _ _ (l .i) _ (v .5) lb (p .1 .0 .0) (v .3) (omega (arith, n0 .0, p .1 .1 .0)) (omega (arith, n0 .1, p .1 .1 .1 .0)) (c .before .before .before .before .before .before .before .before .before .before .before .before .before .before .before .before .before .before .before .before .before .before .before .before .before .before .before .loop-test .taken) (p .0 .1 .0) _ (c .before .before .before .before .before .before .before .before .before .before .before .before .before .before .before .before .before .before .before .before .before .before .tag-at .ensures) _ (c .before .before .before .before .before .before .before .before .before .before .before .before .before .before .before .before .before .before .before .rest-of .ensures) _ _ (c .before .before .before .before .before .before .before .before .before .before .before .before .step .ensures .2 (c .before .before .before .if2 .taken)) (omega (arith, n0 .0, c .before .before .before .before .before .before .before .before .before .before .before .before .step .kept .1 .1 .1 .1 .1 .1 .0, p .1 .1 .0)) (omega (arith, n0 .1, c .before .before .before .before .before .before .before .before .before .before .before .before .step .kept .1 .1 .1 .1 .1 .1 .1 .0, p .1 .1 .1 .0)))) ∙ r .ensures .1, λ h. passed-full _ _ _ _ _ _ _ (turn-over _ _ _ _ _ (x .base) _ _ _ _ _ (l .i) _ (v .5) lb (p .1 .0 .0) (v .3) (omega (arith, n0 .0, p .1 .1 .0)) (omega (arith, n0 .1, p .1 .1 .1 .0)) (c .before .before .before .before .before .before .before .before .before .before .before .before .before .before .before .before .before .before .before .before .before .before .before .before .before .before .before .loop-test .taken) (p .0 .1 .0) _ (c .before .before .before .before .before .before .before .before .before .before .before .before .before .before .before .before .before .before .before .before .before .before .tag-at .ensures) _ (c .before .before .before .before .before .before .before .before .before .before .before .before .before .before .before .before .before .before .before .rest-of .ensures) _ _ _ _ _ _ (c .before .before .before .before .before .before .before .before .before .before .before .before .step .ensures .0) (omega (arith, n0 .0, c .before .before .before .before .before .before .before .before .before .before .before .before .step .kept .1 .1 .1 .1 .1 .1 .0, p .1 .1 .0)) (omega (arith, n0 .1, c .before .before .before .before .before .before .before .before .before .before .before .before .step .kept .1 .1 .1 .1 .1 .1 .1 .0, p .1 .1 .1 .0)) (c .before .before .before .if2 .taken)) (omega (arith, r .ensures .0, p .1 .1 .1 .0, p .1 .1 .1 .1)))
+returns-2 c =
+    let p = c .before .before .before .before .before .before .before .before .before .before .before .before .before .before .before .before .before .before .before .before .before .before .before .before .before .before .before .before .before .pre in
+    let x = c .before .before .before .before .before .before .before .before .before .before .before .before .before .before .before .before .before .before .before .before .before .before .before .before .before .before .before .before .before .args in
+    let l = c .before .before .before .before .before .before .before .before .before .before .before .before .before .before .before .before .before .before .before .before .before .before .before .before .loop in
+    let v = l .inv in
+    let z = p .1 .0 in
+    let k = room (x .areas .base .0) (x .areas .end .0) (x .areas .table .0) _ _ _ (z .0 .0) (z .0 .1) (z .1 .0) (p .1 .1) in
+    let lb = before-length (x .work .now) (x .numbers .now) (x .areas .base .0) (x .areas .end .0) (z .0 .0) (k .0) (k .1 .0) in
+    let q = c .before .before .before .before .before .before .before .before .step .ensures in
+    let d = turn-left _ _ _ _ (x .areas .base .0) _ _ _ _ _ _ _ (l .i) _ (v .5) lb (v .2) (omega (arith, v .0 .0, k .0)) (omega (arith, v .0 .1, k .1 .0)) (c .before .before .before .before .before .before .before .before .before .before .before .before .before .before .before .before .before .before .before .before .before .before .before .loop-test .taken) (p .0 .1) _ (c .before .before .before .before .before .before .before .before .before .before .before .before .before .before .before .before .before .before .tag-at .ensures) _ (c .before .before .before .before .before .before .before .before .before .before .before .before .before .before .before .rest-of .ensures) _ _ (stays-cells (q .2)) (omega (arith, v .0 .0, c .before .before .before .before .before .before .before .work3 .given, k .0)) (omega (arith, v .0 .1, c .before .before .before .before .before .numbers2 .given, k .1 .0)) in (
+      passes-stopped (part (x .a .0) (x .e .0) (cells (x .work .now) (x .numbers .now))) _ _ _ _ _ _ (v .7 ∙ sym (ap (λ (w : List Cell). deeper (l .depth) (tokens 0 w)) d))
+          (turn-over _ _ _ _ (x .areas .base .0) _ _ _ _ _ _ _ (l .i) _ (v .5) lb (v .2) (omega (arith, v .0 .0, k .0)) (omega (arith, v .0 .1, k .1 .0)) (c .before .before .before .before .before .before .before .before .before .before .before .before .before .before .before .before .before .before .before .before .before .before .before .loop-test .taken) (p .0 .1) _ (c .before .before .before .before .before .before .before .before .before .before .before .before .before .before .before .before .before .before .tag-at .ensures) _ (c .before .before .before .before .before .before .before .before .before .before .before .before .before .before .before .rest-of .ensures) _ _ _ _ _ _ (q .0) (omega (arith, v .0 .0, c .before .before .before .before .before .before .before .work3 .given, k .0)) (omega (arith, v .0 .1, c .before .before .before .before .before .numbers2 .given, k .1 .0)) (c .before .before .before .if2 .taken))
+          (c .stopped .ensures),
+      stays-then (v .8) (q .2),
+    )
 
 add-i : tie.Need-add-i Inv-loop μ-loop
-add-i c = let p = c .before .before .before .before .before .before .before .before .before .before .before .before .before .before .before .before .before .before .before .before .before .before .before .before .before .before .before .before .before .before .pre in let x = c .before .before .before .before .before .before .before .before .before .before .before .before .before .before .before .before .before .before .before .before .before .before .before .before .before .before .before .before .before .before .args in let l = c .before .before .before .before .before .before .before .before .before .before .before .before .before .before .before .before .before .before .before .before .before .before .before .before .before .loop in let v = l .inv in let n0 = v .0 in let lb = before-length (x .work .now) (x .numbers .now) (x .base) (x .end) (omega (arith, p .1 .0 .0)) (p .1 .1 .0) (omega (arith, p .1 .1 .1 .0)) in let s = turn-size _ _ _ _ _ (x .base) _ _ _ _ _ (l .i) _ (v .5) lb (p .1 .0 .0) (v .3) (omega (arith, n0 .0, p .1 .1 .0)) (omega (arith, n0 .1, p .1 .1 .1 .0)) (c .before .before .before .before .before .before .before .before .before .before .before .before .before .before .before .before .before .before .before .before .before .before .before .before .loop-test .taken) (p .0 .1 .0) _ (c .before .before .before .before .before .before .before .before .before .before .before .before .before .before .before .before .before .before .before .tag-at .ensures) _ (c .before .before .before .before .before .before .before .before .before .before .before .before .before .before .before .before .rest-of .ensures) in omega (arith, s .0, p .0 .1 .0, p .1 .0 .0, p .1 .1 .1 .0, p .1 .1 .1 .1)
+add-i c =
+    let p = c .before .before .before .before .before .before .before .before .before .before .before .before .before .before .before .before .before .before .before .before .before .before .before .before .before .before .pre in
+    let x = c .before .before .before .before .before .before .before .before .before .before .before .before .before .before .before .before .before .before .before .before .before .before .before .before .before .before .args in
+    let l = c .before .before .before .before .before .before .before .before .before .before .before .before .before .before .before .before .before .before .before .before .before .loop in
+    let v = l .inv in
+    let z = p .1 .0 in
+    let k = room (x .areas .base .0) (x .areas .end .0) (x .areas .table .0) _ _ _ (z .0 .0) (z .0 .1) (z .1 .0) (p .1 .1) in
+    let lb = before-length (x .work .now) (x .numbers .now) (x .areas .base .0) (x .areas .end .0) (z .0 .0) (k .0) (k .1 .0) in
+    let s = turn-size _ _ _ _ (x .areas .base .0) _ _ _ _ _ _ _ (l .i) _ (v .5) lb (v .2) (omega (arith, v .0 .0, k .0)) (omega (arith, v .0 .1, k .1 .0)) (c .before .before .before .before .before .before .before .before .before .before .before .before .before .before .before .before .before .before .before .before .loop-test .taken) (p .0 .1) _ (c .before .before .before .before .before .before .before .before .before .before .before .before .before .before .before .tag-at .ensures) _ (c .before .before .before .before .before .before .before .before .before .before .before .before .rest-of .ensures) in
+    omega (arith, s .0, p .0 .1, z .0, p .1 .1, z .1 .1)
 
 add-i-2 : tie.Need-add-i-2 Inv-loop μ-loop
-add-i-2 c = let p = c .before .before .before .before .before .before .before .before .before .before .before .before .before .before .before .before .before .before .before .before .before .before .before .before .before .before .before .before .before .before .pre in let x = c .before .before .before .before .before .before .before .before .before .before .before .before .before .before .before .before .before .before .before .before .before .before .before .before .before .before .before .before .before .before .args in let l = c .before .before .before .before .before .before .before .before .before .before .before .before .before .before .before .before .before .before .before .before .before .before .before .before .before .loop in let v = l .inv in let n0 = v .0 in let lb = before-length (x .work .now) (x .numbers .now) (x .base) (x .end) (omega (arith, p .1 .0 .0)) (p .1 .1 .0) (omega (arith, p .1 .1 .1 .0)) in let s = turn-size _ _ _ _ _ (x .base) _ _ _ _ _ (l .i) _ (v .5) lb (p .1 .0 .0) (v .3) (omega (arith, n0 .0, p .1 .1 .0)) (omega (arith, n0 .1, p .1 .1 .1 .0)) (c .before .before .before .before .before .before .before .before .before .before .before .before .before .before .before .before .before .before .before .before .before .before .before .before .loop-test .taken) (p .0 .1 .0) _ (c .before .before .before .before .before .before .before .before .before .before .before .before .before .before .before .before .before .before .before .tag-at .ensures) _ (c .before .before .before .before .before .before .before .before .before .before .before .before .before .before .before .before .rest-of .ensures) in omega (arith, s .0, p .0 .1 .0, p .1 .0 .0, p .1 .1 .1 .0, p .1 .1 .1 .1)
+add-i-2 c =
+    let p = c .before .before .before .before .before .before .before .before .before .before .before .before .before .before .before .before .before .before .before .before .before .before .before .before .before .before .pre in
+    let x = c .before .before .before .before .before .before .before .before .before .before .before .before .before .before .before .before .before .before .before .before .before .before .before .before .before .before .args in
+    let l = c .before .before .before .before .before .before .before .before .before .before .before .before .before .before .before .before .before .before .before .before .before .loop in
+    let v = l .inv in
+    let z = p .1 .0 in
+    let k = room (x .areas .base .0) (x .areas .end .0) (x .areas .table .0) _ _ _ (z .0 .0) (z .0 .1) (z .1 .0) (p .1 .1) in
+    let lb = before-length (x .work .now) (x .numbers .now) (x .areas .base .0) (x .areas .end .0) (z .0 .0) (k .0) (k .1 .0) in
+    let s = turn-size _ _ _ _ (x .areas .base .0) _ _ _ _ _ _ _ (l .i) _ (v .5) lb (v .2) (omega (arith, v .0 .0, k .0)) (omega (arith, v .0 .1, k .1 .0)) (c .before .before .before .before .before .before .before .before .before .before .before .before .before .before .before .before .before .before .before .before .loop-test .taken) (p .0 .1) _ (c .before .before .before .before .before .before .before .before .before .before .before .before .before .before .before .tag-at .ensures) _ (c .before .before .before .before .before .before .before .before .before .before .before .before .rest-of .ensures) in
+    omega (arith, s .0, p .0 .1, z .0, p .1 .1, z .1 .1)
 
 loop-less : tie.Need-loop-less Inv-loop μ-loop
-loop-less c = let p = c .before .before .before .before .before .before .before .before .before .before .before .before .before .before .before .before .before .before .before .before .before .before .before .before .before .before .before .before .before .before .pre in let x = c .before .before .before .before .before .before .before .before .before .before .before .before .before .before .before .before .before .before .before .before .before .before .before .before .before .before .before .before .before .before .args in let l = c .before .before .before .before .before .before .before .before .before .before .before .before .before .before .before .before .before .before .before .before .before .before .before .before .before .loop in let v = l .inv in let n0 = v .0 in let lb = before-length (x .work .now) (x .numbers .now) (x .base) (x .end) (omega (arith, p .1 .0 .0)) (p .1 .1 .0) (omega (arith, p .1 .1 .1 .0)) in let s = turn-size _ _ _ _ _ (x .base) _ _ _ _ _ (l .i) _ (v .5) lb (p .1 .0 .0) (v .3) (omega (arith, n0 .0, p .1 .1 .0)) (omega (arith, n0 .1, p .1 .1 .1 .0)) (c .before .before .before .before .before .before .before .before .before .before .before .before .before .before .before .before .before .before .before .before .before .before .before .before .loop-test .taken) (p .0 .1 .0) _ (c .before .before .before .before .before .before .before .before .before .before .before .before .before .before .before .before .before .before .before .tag-at .ensures) _ (c .before .before .before .before .before .before .before .before .before .before .before .before .before .before .before .before .rest-of .ensures) in omega (arith, s .0, c .before .before .before .before .before .before .before .before .before .before .before .before .before .before .before .before .before .before .before .before .before .before .before .before .loop-test .taken)
+loop-less c =
+    let p = c .before .before .before .before .before .before .before .before .before .before .before .before .before .before .before .before .before .before .before .before .before .before .before .before .before .before .pre in
+    let x = c .before .before .before .before .before .before .before .before .before .before .before .before .before .before .before .before .before .before .before .before .before .before .before .before .before .before .args in
+    let l = c .before .before .before .before .before .before .before .before .before .before .before .before .before .before .before .before .before .before .before .before .before .loop in
+    let v = l .inv in
+    let z = p .1 .0 in
+    let k = room (x .areas .base .0) (x .areas .end .0) (x .areas .table .0) _ _ _ (z .0 .0) (z .0 .1) (z .1 .0) (p .1 .1) in
+    let lb = before-length (x .work .now) (x .numbers .now) (x .areas .base .0) (x .areas .end .0) (z .0 .0) (k .0) (k .1 .0) in
+    let s = turn-size _ _ _ _ (x .areas .base .0) _ _ _ _ _ _ _ (l .i) _ (v .5) lb (v .2) (omega (arith, v .0 .0, k .0)) (omega (arith, v .0 .1, k .1 .0)) (c .before .before .before .before .before .before .before .before .before .before .before .before .before .before .before .before .before .before .before .before .loop-test .taken) (p .0 .1) _ (c .before .before .before .before .before .before .before .before .before .before .before .before .before .before .before .tag-at .ensures) _ (c .before .before .before .before .before .before .before .before .before .before .before .before .rest-of .ensures) in
+    omega (arith, s .0, c .before .before .before .before .before .before .before .before .before .before .before .before .before .before .before .before .before .before .before .before .loop-test .taken)
 
 loop-again : tie.Need-loop-again Inv-loop μ-loop
-loop-again c = let p = c .before .before .before .before .before .before .before .before .before .before .before .before .before .before .before .before .before .before .before .before .before .before .before .before .before .before .before .before .before .before .pre in let x = c .before .before .before .before .before .before .before .before .before .before .before .before .before .before .before .before .before .before .before .before .before .before .before .before .before .before .before .before .before .before .args in let l = c .before .before .before .before .before .before .before .before .before .before .before .before .before .before .before .before .before .before .before .before .before .before .before .before .before .loop in let v = l .inv in let n0 = v .0 in let lb = before-length (x .work .now) (x .numbers .now) (x .base) (x .end) (omega (arith, p .1 .0 .0)) (p .1 .1 .0) (omega (arith, p .1 .1 .1 .0)) in let s = turn-size _ _ _ _ _ (x .base) _ _ _ _ _ (l .i) _ (v .5) lb (p .1 .0 .0) (v .3) (omega (arith, n0 .0, p .1 .1 .0)) (omega (arith, n0 .1, p .1 .1 .1 .0)) (c .before .before .before .before .before .before .before .before .before .before .before .before .before .before .before .before .before .before .before .before .before .before .before .before .loop-test .taken) (p .0 .1 .0) _ (c .before .before .before .before .before .before .before .before .before .before .before .before .before .before .before .before .before .before .before .tag-at .ensures) _ (c .before .before .before .before .before .before .before .before .before .before .before .before .before .before .before .before .rest-of .ensures) in let y = turn-reads _ _ _ _ _ (x .base) _ _ _ _ _ (l .i) _ (v .5) lb (p .1 .0 .0) (v .3) (omega (arith, n0 .0, p .1 .1 .0)) (omega (arith, n0 .1, p .1 .1 .1 .0)) (c .before .before .before .before .before .before .before .before .before .before .before .before .before .before .before .before .before .before .before .before .before .before .before .before .loop-test .taken) (p .0 .1 .0) _ (c .before .before .before .before .before .before .before .before .before .before .before .before .before .before .before .before .before .before .before .tag-at .ensures) _ (c .before .before .before .before .before .before .before .before .before .before .before .before .before .before .before .before .rest-of .ensures) in let d = c .before .before .before .before .before .before .before .before .before .before .before .before .before .before .before .depth-after .ensures in ((search needs, search needs, search needs, search needs), omega (arith, v .1), omega (arith, s .0), omega (arith, c .if2 .left), omega (arith, v .4, c .before .before .before .before .before .before .before .before .before .step .ensures .1, s .1 .1), (turn-goes _ _ _ _ _ (x .base) _ _ _ _ _ (l .i) _ (v .5) lb (p .1 .0 .0) (v .3) (omega (arith, n0 .0, p .1 .1 .0)) (omega (arith, n0 .1, p .1 .1 .1 .0)) (c .before .before .before .before .before .before .before .before .before .before .before .before .before .before .before .before .before .before .before .before .before .before .before .before .loop-test .taken) (p .0 .1 .0) _ (c .before .before .before .before .before .before .before .before .before .before .before .before .before .before .before .before .before .before .before .tag-at .ensures) _ (c .before .before .before .before .before .before .before .before .before .before .before .before .before .before .before .before .rest-of .ensures) _ _ _ _ _ _ (c .before .before .before .before .before .before .before .before .before .step .ensures .0)), omega (arith, c .before .before .before .before .before .before .before .before .before .before .before .before .before .before .if1 .left), v .7 ∙ rw d (deep-goes (part (l .i) (x .e) (take (x .base) (cells (x .work .now) (x .numbers .now)))) _ (y .0) (y .1 .0) (y .1 .1 .0) (y .1 .1 .1) (omega (arith, d, c .before .before .before .before .before .before .before .before .before .before .before .before .before .before .if1 .left))))
+loop-again c =
+    let p = c .before .before .before .before .before .before .before .before .before .before .before .before .before .before .before .before .before .before .before .before .before .before .before .before .before .before .pre in
+    let x = c .before .before .before .before .before .before .before .before .before .before .before .before .before .before .before .before .before .before .before .before .before .before .before .before .before .before .args in
+    let l = c .before .before .before .before .before .before .before .before .before .before .before .before .before .before .before .before .before .before .before .before .before .loop in
+    let v = l .inv in
+    let z = p .1 .0 in
+    let k = room (x .areas .base .0) (x .areas .end .0) (x .areas .table .0) _ _ _ (z .0 .0) (z .0 .1) (z .1 .0) (p .1 .1) in
+    let lb = before-length (x .work .now) (x .numbers .now) (x .areas .base .0) (x .areas .end .0) (z .0 .0) (k .0) (k .1 .0) in
+    let s = turn-size _ _ _ _ (x .areas .base .0) _ _ _ _ _ _ _ (l .i) _ (v .5) lb (v .2) (omega (arith, v .0 .0, k .0)) (omega (arith, v .0 .1, k .1 .0)) (c .before .before .before .before .before .before .before .before .before .before .before .before .before .before .before .before .before .before .before .before .loop-test .taken) (p .0 .1) _ (c .before .before .before .before .before .before .before .before .before .before .before .before .before .before .before .tag-at .ensures) _ (c .before .before .before .before .before .before .before .before .before .before .before .before .rest-of .ensures) in
+    let t = turn-pushes _ _ _ _ (x .areas .base .0) _ _ _ _ _ _ _ (l .i) _ (v .5) lb (v .2) (omega (arith, v .0 .0, k .0)) (omega (arith, v .0 .1, k .1 .0)) (c .before .before .before .before .before .before .before .before .before .before .before .before .before .before .before .before .before .before .before .before .loop-test .taken) (p .0 .1) _ (c .before .before .before .before .before .before .before .before .before .before .before .before .before .before .before .tag-at .ensures) _ (c .before .before .before .before .before .before .before .before .before .before .before .before .rest-of .ensures) in
+    let y = turn-reads _ _ _ _ (x .areas .base .0) _ _ _ _ _ _ _ (l .i) _ (v .5) lb (v .2) (omega (arith, v .0 .0, k .0)) (omega (arith, v .0 .1, k .1 .0)) (c .before .before .before .before .before .before .before .before .before .before .before .before .before .before .before .before .before .before .before .before .loop-test .taken) (p .0 .1) _ (c .before .before .before .before .before .before .before .before .before .before .before .before .before .before .before .tag-at .ensures) _ (c .before .before .before .before .before .before .before .before .before .before .before .before .rest-of .ensures) in
+    let d = c .before .before .before .before .before .before .before .before .before .before .before .depth-after .ensures in
+    let g = c .before .before .before .before .before .before .before .before .greater .ensures in
+    let q = c .before .before .before .before .before .step .ensures in (
+      (search needs, search needs),
+      omega (arith, s .0),
+      omega (arith, c .if2 .left),
+      omega (arith, g, v .2, v .3),
+      omega (arith, v .4, q .1, t),
+      turn-goes _ _ _ _ (x .areas .base .0) _ _ _ _ _ _ _ (l .i) _ (v .5) lb (v .2) (omega (arith, v .0 .0, k .0)) (omega (arith, v .0 .1, k .1 .0)) (c .before .before .before .before .before .before .before .before .before .before .before .before .before .before .before .before .before .before .before .before .loop-test .taken) (p .0 .1) _ (c .before .before .before .before .before .before .before .before .before .before .before .before .before .before .before .tag-at .ensures) _ (c .before .before .before .before .before .before .before .before .before .before .before .before .rest-of .ensures) _ _ _ _ _ _ (q .0) _ g,
+      omega (arith, c .before .before .before .before .before .before .before .before .before .before .if1 .left),
+      v .7 ∙ rw d (deep-goes (part (l .i) (x .e .0) (take (x .areas .base .0) (cells (x .work .now) (x .numbers .now)))) _ (y .0) (y .1 .0) (y .1 .1 .0) (y .1 .1 .1) (omega (arith, d, c .before .before .before .before .before .before .before .before .before .before .if1 .left))),
+      stays-then (v .8) (q .2),
+    )
 
 finish-lists-requires : tie.Need-finish-lists-requires Inv-loop μ-loop
-finish-lists-requires c κs = let p = c .before .before .before .before .before .before .before .before .before .before .pre in let x = c .before .before .before .before .before .before .before .before .before .before .args in let l = c .before .before .before .before .before .loop in let v = l .inv in let n0 = v .0 in let lb = before-length (x .work .now) (x .numbers .now) (x .base) (x .end) (omega (arith, p .1 .0 .0)) (p .1 .1 .0) (omega (arith, p .1 .1 .1 .0)) in (running-ready _ _ _ _ _ (x .base) _ _ _ _ _ _ (v .5) lb (v .3) (omega (arith, n0 .0, p .1 .1 .0)) (omega (arith, n0 .1, p .1 .1 .1 .0)) (omega (arith, n0 .1, p .1 .1 .1 .1)) (omega (arith, v .4, v .1, v .2, p .0 .1 .1)), (omega (arith, n0 .2, p .1 .0 .0), omega (arith, n0 .2, n0 .3, p .1 .0 .1)))
+finish-lists-requires c κs =
+    let p = c .before .before .before .before .before .before .before .before .pre in
+    let x = c .before .before .before .before .before .before .before .before .args in
+    let l = c .before .before .before .loop in
+    let v = l .inv in
+    let z = p .1 .0 in
+    let k = room (x .areas .base .0) (x .areas .end .0) (x .areas .table .0) _ _ _ (z .0 .0) (z .0 .1) (z .1 .0) (p .1 .1) in
+    let lb = before-length (x .work .now) (x .numbers .now) (x .areas .base .0) (x .areas .end .0) (z .0 .0) (k .0) (k .1 .0) in
+    (running-ready _ _ _ _ (x .areas .base .0) _ _ _ _ _ _ _ _ (v .5) lb (v .2) (omega (arith, v .0 .0, k .0)) (omega (arith, v .0 .1, k .1 .0)) (omega (arith, v .0 .1, z .1 .1)), ((z .0, (omega (arith, v .0 .0, z .1 .0), omega (arith, v .0 .1, z .1 .1))), v .3))
 
-same-length-9 : tie.Need-same-length-9 Inv-loop μ-loop
-same-length-9 c = search needs
+same-length-5 : tie.Need-same-length-5 Inv-loop μ-loop
+same-length-5 c = search needs
 
-same-length-10 : tie.Need-same-length-10 Inv-loop μ-loop
-same-length-10 c = search needs
-
-same-length-11 : tie.Need-same-length-11 Inv-loop μ-loop
-same-length-11 c = search needs
-
-same-length-12 : tie.Need-same-length-12 Inv-loop μ-loop
-same-length-12 c = search needs
+same-length-6 : tie.Need-same-length-6 Inv-loop μ-loop
+same-length-6 c = search needs
 
 returns-3 : tie.Need-returns-3 Inv-loop μ-loop
-returns-3 c = let p = c .before .before .before .before .before .before .before .before .before .before .before .before .before .before .before .before .before .before .before .pre in let x = c .before .before .before .before .before .before .before .before .before .before .before .before .before .before .before .before .before .before .before .args in let l = c .before .before .before .before .before .before .before .before .before .before .before .before .before .before .loop in let v = l .inv in let n0 = v .0 in let lb = before-length (x .work .now) (x .numbers .now) (x .base) (x .end) (omega (arith, p .1 .0 .0)) (p .1 .1 .0) (omega (arith, p .1 .1 .1 .0)) in let r = c .before .before .before .before .before .before .before .before .finish-lists in (v .7 ∙ deep-end (l .i) _ _ _ (c .before .before .before .before .before .before .before .before .before .before .before .before .before .loop-test .left) ∙ sym (le-ltb 18446744073709551614 _ (r .ensures .1)), λ h. rw (← n0 .2) (c .before .before .before .before .before .before .before .before .finish-lists .ensures .0 (part (x .a) (x .e) (cells (x .work .now) (x .numbers .now))) (take (x .base) (cells (x .work .now) (x .numbers .now))) lb (rw (n0 .2) (running-end _ _ _ _ _ _ _ _ _ _ (l .i) _ (c .before .before .before .before .before .before .before .before .before .before .before .before .before .loop-test .left) (v .5)))))
+returns-3 c =
+    let p = c .before .before .before .before .before .before .before .before .before .before .before .before .before .pre in
+    let x = c .before .before .before .before .before .before .before .before .before .before .before .before .before .args in
+    let l = c .before .before .before .before .before .before .before .before .loop in
+    let v = l .inv in
+    let z = p .1 .0 in
+    let k = room (x .areas .base .0) (x .areas .end .0) (x .areas .table .0) _ _ _ (z .0 .0) (z .0 .1) (z .1 .0) (p .1 .1) in
+    let lb = before-length (x .work .now) (x .numbers .now) (x .areas .base .0) (x .areas .end .0) (z .0 .0) (k .0) (k .1 .0) in
+    let r = c .before .before .before .before .finish-lists .ensures in (
+      passes-ends (part (x .a .0) (x .e .0) (cells (x .work .now) (x .numbers .now))) _ _ _ _ (c .before .before .before .before .finish-lists .result) (v .7 ∙ deep-end (l .i) _ _ _ (c .before .before .before .before .before .before .before .loop-test .left))
+          (r .0 (part (x .a .0) (x .e .0) (cells (x .work .now) (x .numbers .now))) (take (x .areas .base .0) (cells (x .work .now) (x .numbers .now))) lb (running-end _ _ _ _ _ _ _ _ _ _ _ (l .i) _ (c .before .before .before .before .before .before .before .loop-test .left) (v .5))),
+      stays-then (v .8) (r .1),
+    )
 
 pub list-pass-spec : {M : Type 1} → statement M
 list-pass-spec =
@@ -151,23 +274,19 @@ list-pass-spec =
     depth-after-requires
     same-length
     same-length-2
-    same-length-3
-    same-length-4
     returns
+    sub-greater
+    greater-requires
     step-requires
     stopped-requires
-    same-length-5
-    same-length-6
-    same-length-7
-    same-length-8
+    same-length-3
+    same-length-4
     returns-2
     add-i
     add-i-2
     loop-less
     loop-again
     finish-lists-requires
-    same-length-9
-    same-length-10
-    same-length-11
-    same-length-12
+    same-length-5
+    same-length-6
     returns-3)

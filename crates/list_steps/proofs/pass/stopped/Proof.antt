@@ -1,8 +1,8 @@
 use borrow.Author.Needs.{needs}
-use native.Mathlib.Omega.{arith}
-use mathlib.Core.Path.{sym, _∙_}
+use mathlib.Core.Path.{sym, ap, _∙_}
+use mathlib.Core.Bool.{Bool, cond}
 use Prim.Native.Nat.{_-_}
-use borrow.Author.Tests.{lt-ltb, le-ltb}
+use Rattle.list_steps.specs.declared.pass.Passed.the-variants.{Full, TooDeep}
 use Rattle.list_steps.proofs.pass.stopped.Statement.{statement}
 use Rattle.list_steps.proofs.pass.stopped.Tie as tie
 
@@ -31,10 +31,10 @@ too-deep-requires : tie.Need-too-deep-requires
 too-deep-requires c κs = search needs
 
 returns : tie.Need-returns
-returns c = (omega arith, sym (c .before .too-deep .ensures) ∙ c .if1 .taken ∙ sym (lt-ltb 18446744073709551614 18446744073709551615 (omega arith)))
+returns c = sym (ap (λ (t : Bool). cond t TooDeep Full) (sym (c .before .too-deep .ensures) ∙ c .if1 .taken))
 
 returns-2 : tie.Need-returns-2
-returns-2 c = (omega arith, sym (c .before .too-deep .ensures) ∙ c .if1 .left ∙ sym (le-ltb 18446744073709551614 18446744073709551614 (omega arith)))
+returns-2 c = sym (ap (λ (t : Bool). cond t TooDeep Full) (sym (c .before .too-deep .ensures) ∙ c .if1 .left))
 
 pub stopped-spec : {M : Type 1} → statement M
 stopped-spec =

@@ -6,12 +6,13 @@ use lib.ListN.{length}
 use lib.ListN.{drop}
 use Rattle.list_steps.proofs.Depths.{depth-size, depth-over, depth-goes, depth-end}
 use Rattle.list_blocks.specs.Tags.{tokens, deeper}
+use Rattle.text.specs.Bounds.{deepMost}
 use Rattle.text.specs.Cells.{cells}
 use Rattle.list_steps.proofs.pass.too_deep.Statement.{statement}
 use Rattle.list_steps.proofs.pass.too_deep.Tie as tie
 
 abbrev Inv-loop : tie.InvT-loop
-Inv-loop src from «open» n depth₀ i₀ depth i = (n ≡ length src) × (i ≤ n) × (depth ≤ 64) × (deeper «open» (tokens 0 (cells src from)) ≡ deeper depth (tokens 0 (drop i (cells src from))))
+Inv-loop src from «open» n depth₀ i₀ depth i = (n ≡ length src) × (i ≤ n) × (depth ≤ deepMost) × (deeper «open» (tokens 0 (cells src from)) ≡ deeper depth (tokens 0 (drop i (cells src from))))
 
 abbrev μ-loop : tie.MeasureT-loop
 μ-loop src from «open» n depth₀ i₀ depth i = n - i

@@ -2,30 +2,44 @@ use borrow.Author.Needs.{needs}
 use native.Mathlib.Omega.{arith}
 use Prim.Native.Nat.{_-_}
 use mathlib.Core.List.{[]}
-use Rattle.list_steps.proofs.Steppings.{ready-first, room-of, size-of}
+use Rattle.list_steps.proofs.Steppings.{ready-base, ready-first, room-of, size-of}
 use Rattle.list_steps.proofs.step.step.Statement.{statement}
 use Rattle.list_steps.proofs.step.step.Tie as tie
 
 enum-known-tag : tie.Need-enum-known-tag
-enum-known-tag c = search needs
+enum-known-tag c =
+    search needs
 
 open-list-requires : tie.Need-open-list-requires
-open-list-requires c κs = let p = c .before .before .before .before .before .before .before .before .pre in let f = ready-first _ _ _ _ _ _ _ _ (p .0) in let w = p .0 .within in (omega (arith, p .0 .fits, w .1 .0, w .1 .1 .0), (omega (arith, f, w .1 .1 .0), (room-of _ _ (c .before .before .tag .given .1) 0 0 _ _ (p .1 .1 .0), w .1 .1 .0)))
+open-list-requires c κs =
+    let p = c .before .before .before .before .before .before .pre in
+    let f = ready-first _ _ _ _ _ _ _ _ _ (p .0) in
+    let w = p .0 .within in
+    (omega (arith, p .0 .fits, w .1 .0, w .1 .1), (omega (arith, f, w .1 .1), (room-of _ _ (c .before .before .tag .given .1) 0 0 _ _ (p .1 .1 .0), w .1 .1)))
 
 enum-told : tie.Need-enum-told
-enum-told c = search needs
+enum-told c =
+    search needs
 
 start-item-requires : tie.Need-start-item-requires
-start-item-requires c κs = let p = c .before .before .before .before .before .before .before .before .pre in let e = c .before .before .enum-told .given .1 in (p .0, (size-of _ _ e _ _ 0 0 (omega (arith, p .1 .0 .0, p .1 .0 .1)), room-of _ _ e 0 0 _ _ (p .1 .1 .0)))
+start-item-requires c κs =
+    let p = c .before .before .before .before .before .before .pre in
+    let e = c .before .before .enum-told .given .1 in
+    (p .0, (size-of _ _ e _ _ 0 0 (omega (arith, p .1 .0 .0, p .1 .0 .1)), room-of _ _ e 0 0 _ _ (p .1 .1 .0)))
 
 enum-told-2 : tie.Need-enum-told-2
-enum-told-2 c = search needs
+enum-told-2 c =
+    search needs
 
 end-list-requires : tie.Need-end-list-requires
-end-list-requires c κs = let p = c .before .before .before .before .before .before .before .before .before .before .pre in let e = c .before .before .before .before .enum-told2 .given .1 in (p .0, (size-of _ _ e _ _ 0 0 (omega (arith, p .1 .0 .0, p .1 .0 .1)), p .1 .1 .1))
+end-list-requires c κs =
+    let p = c .before .before .before .before .before .before .pre in
+    let e = c .before .before .enum-told2 .given .1 in
+    (p .0, (size-of _ _ e _ _ 0 0 (omega (arith, p .1 .0 .0, p .1 .0 .1)), p .1 .1 .1))
 
 enum-told-3 : tie.Need-enum-told-3
-enum-told-3 c = search needs
+enum-told-3 c =
+    search needs
 
 add-keep : tie.Need-add-keep
 add-keep c = search needs
@@ -37,7 +51,13 @@ same-length : tie.Need-same-length
 same-length c = search needs
 
 returns : tie.Need-returns
-returns c = let p = c .before .before .before .before .before .before .before .before .before .before .before .pre in rw (c .before .before .before .before .before .tag .given .1) (c .before .before .open-list .ensures .0 0 _ _ _ [] (p .0 .fits) (p .0 .within .0), omega (arith, c .before .before .open-list .ensures .1), λ far. absurd (omega (arith, far, c .before .before .open-list .ensures .2, p .0 .fits)))
+returns c =
+    let p = c .before .before .before .before .before .before .before .before .before .pre in
+    let o = c .before .before .open-list .ensures in
+    let b = ready-base _ _ _ _ _ _ _ _ _ (p .0) in
+    let r = p .0 .holds .reaches in
+    let q = o .0 0 (c .before .before .before .before .before .before .before .before .before .args .areas) _ [] (p .0 .fits) (p .0 .within .0) (omega (arith, b, p .0 .fits, p .0 .holds .apart, r .0)) (r .0) in
+    rw (c .before .before .before .before .before .tag .given .1) (q .0, omega (arith, o .1), q .1)
 
 same-length-2 : tie.Need-same-length-2
 same-length-2 c = search needs
@@ -46,7 +66,8 @@ same-length-3 : tie.Need-same-length-3
 same-length-3 c = search needs
 
 returns-2 : tie.Need-returns-2
-returns-2 c = rw (c .before .before .before .before .before .before .before .enum-told .given .1) (c .before .before .before .before .start-item .ensures)
+returns-2 c =
+    rw (c .before .before .before .before .before .before .before .enum-told .given .1) (c .before .before .before .before .start-item .ensures)
 
 same-length-4 : tie.Need-same-length-4
 same-length-4 c = search needs
@@ -54,23 +75,19 @@ same-length-4 c = search needs
 same-length-5 : tie.Need-same-length-5
 same-length-5 c = search needs
 
+returns-3 : tie.Need-returns-3
+returns-3 c =
+    let e = c .before .before .before .before .end-list .ensures in rw (c .before .before .before .before .before .before .before .enum-told2 .given .1) (e .0, omega (arith, e .1), e .2)
+
 same-length-6 : tie.Need-same-length-6
 same-length-6 c = search needs
 
 same-length-7 : tie.Need-same-length-7
 same-length-7 c = search needs
 
-returns-3 : tie.Need-returns-3
-returns-3 c = rw (c .before .before .before .before .before .before .before .before .before .before .before .before .before .enum-told2 .given .1) (c .before .before .before .before .before .before .before .before .end-list .ensures .0, omega (arith, c .before .before .before .before .before .before .before .before .end-list .ensures .1), c .before .before .before .before .before .before .before .before .end-list .ensures .2)
-
-same-length-8 : tie.Need-same-length-8
-same-length-8 c = search needs
-
-same-length-9 : tie.Need-same-length-9
-same-length-9 c = search needs
-
 returns-4 : tie.Need-returns-4
-returns-4 c = rw (c .before .before .before .before .before .before .before .enum-told3 .given .1) (c .before .before .before .before .keep .ensures .0, omega (arith, c .before .before .before .before .keep .ensures .1), c .before .before .before .before .keep .ensures .2)
+returns-4 c =
+    let e = c .before .before .before .before .keep .ensures in rw (c .before .before .before .before .before .before .before .enum-told3 .given .1) (e .0, omega (arith, e .1), e .2)
 
 pub step-spec : {M : Type 1} → statement M
 step-spec =
@@ -92,9 +109,7 @@ step-spec =
     returns-2
     same-length-4
     same-length-5
+    returns-3
     same-length-6
     same-length-7
-    returns-3
-    same-length-8
-    same-length-9
     returns-4)

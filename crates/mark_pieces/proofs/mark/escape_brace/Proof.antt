@@ -26,16 +26,16 @@ same-length-2 : tie.Need-same-length-2
 same-length-2 c = search needs
 
 returns : tie.Need-returns
-returns c = let a = c .before .before .before .before .before .before .before .before .before .before .before .before .before .before .before .args in escape-yes (a .buf .now) (a .nums .now) (a .p) (a .at .0) (a .at .0 - 1) (omega arith) (omega arith) (omega arith) refl (c .before .before .before .before .before .before .before .before .before .before .if1 .taken) (sym (c .before .before .before .before .before .before .before .if2 .taken) ∙ c .before .before .before .before .before .before .before .before .is-even .ensures) (c .before .before .before .before .insert .ensures)
+returns c = let a = c .before .before .before .before .before .before .before .before .before .before .before .before .before .before .before .args in escape-yes (a .buf .now) (a .nums .now) (a .p .0) (a .at .0) (a .at .0 - 1) (omega arith) (omega arith) (omega arith) refl (c .before .before .before .before .before .before .before .before .before .before .if1 .taken) (sym (c .before .before .before .before .before .before .before .if2 .taken) ∙ c .before .before .before .before .before .before .before .before .is-even .ensures) (c .before .before .before .before .insert .ensures)
 
 same-length-3 : tie.Need-same-length-3
 same-length-3 c = search needs
 
 returns-2 : tie.Need-returns-2
-returns-2 c = let a = c .before .before .before .before .before .before .before .before .args in escape-no (a .buf .now) (a .nums .now) (a .p) (a .at .0) (a .at .0 - 1) (omega arith) (omega arith) (omega arith) refl (rw (← c .before .is-even .ensures, c .if2 .left, eq-eqb _ 123 (c .before .before .before .if1 .taken)))
+returns-2 c = let a = c .before .before .before .before .before .before .before .before .args in escape-no (a .buf .now) (a .nums .now) (a .p .0) (a .at .0) (a .at .0 - 1) (omega arith) (omega arith) (omega arith) refl (rw (← c .before .is-even .ensures, c .if2 .left, eq-eqb _ 123 (c .before .before .before .if1 .taken)))
 
 returns-3 : tie.Need-returns-3
-returns-3 c = let a = c .before .before .before .before .before .args in escape-no (a .buf .now) (a .nums .now) (a .p) (a .at .0) (a .at .0 - 1) (omega arith) (omega arith) (omega arith) refl (rw (ne-eqb _ 123 (c .if1 .left)))
+returns-3 c = let a = c .before .before .before .before .before .args in escape-no (a .buf .now) (a .nums .now) (a .p .0) (a .at .0) (a .at .0 - 1) (omega arith) (omega arith) (omega arith) refl (rw (ne-eqb _ 123 (c .if1 .left)))
 
 pub escape-brace-spec : {M : Type 1} → statement M
 escape-brace-spec =

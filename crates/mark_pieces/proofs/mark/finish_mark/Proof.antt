@@ -1,38 +1,27 @@
 use borrow.Author.Needs.{needs}
-use native.Mathlib.Omega.{arith}
-use mathlib.Core.Path.{ap, _∙_}
-use Prim.Native.Nat.{ℕ, _+_, _-_}
-use mathlib.Core.List.{_∷_, _++_}
-use lib.ListN.{take, drop}
-use Rattle.mark_pieces.proofs.Wrapping.{closes-step, closes-keeps}
-use Rattle.mark_pieces.specs.Spans.{raised}
+use mathlib.Core.Path.{sym, _∙_}
+use Prim.Native.Nat.{_-_}
+use lib.Seq.{length-take-le}
+use Rattle.mark_pieces.proofs.Besides.{finished-in}
 use Rattle.mark_pieces.proofs.mark.finish_mark.Statement.{statement}
 use Rattle.mark_pieces.proofs.mark.finish_mark.Tie as tie
 
-add-takes-braces : tie.Need-add-takes-braces
-add-takes-braces c = search needs
+slice-relend-prefix-finish : tie.Need-slice-relend-prefix-finish
+slice-relend-prefix-finish c = search needs
 
-takes-braces-requires : tie.Need-takes-braces-requires
-takes-braces-requires c κs = search needs
+slice-aggregate-finish : tie.Need-slice-aggregate-finish
+slice-aggregate-finish c =
+    let s = c .before .before .before .before in sym (length-take-le (s .args .end) (s .args .buf .now) (s .pre .1 .0))
 
-add-escape-brace : tie.Need-add-escape-brace
-add-escape-brace c = search needs
+slice-relend-prefix-finish-2 : tie.Need-slice-relend-prefix-finish-2
+slice-relend-prefix-finish-2 c = search needs
 
-escape-brace-requires : tie.Need-escape-brace-requires
-escape-brace-requires c κs = search needs
+slice-aggregate-finish-2 : tie.Need-slice-aggregate-finish-2
+slice-aggregate-finish-2 c =
+    let s = c .before .before .before .before .before in sym (length-take-le (s .args .end) (s .args .nums .now) (s .pre .1 .1))
 
-close-mark-requires : tie.Need-close-mark-requires
-close-mark-requires c κs = search needs
-
-one-if-requires : tie.Need-one-if-requires
-one-if-requires c κs = search needs
-
-put-span-requires : tie.Need-put-span-requires
-put-span-requires c κs =
-    let p = c .before .before .before .before .before .before .before .before .before .before .before .before .before .before .before .before .before .before .before .before .before .before .pre in
-    let k₁ = c .before .before .before .before .before .before .before .before .before .before .before .before .before .before .escape-brace .kept in
-    let k₂ = c .before .before .before .before .before .before .before .close-mark .kept in
-    ((omega arith, (omega arith, omega arith)), (c .one-if .ensures .1, p .1 .1 .1))
+finish-requires : tie.Need-finish-requires
+finish-requires c κs = c .before .before .before .before .before .before .pre .0
 
 same-length : tie.Need-same-length
 same-length c = search needs
@@ -45,54 +34,22 @@ same-length-3 c = search needs
 
 returns : tie.Need-returns
 returns c =
-    let a = c .before .before .before .before .before .before .before .before .before .before .before .before .before .before .before .before .before .before .before .before .before .before .before .before .before .args in
-    let g₁ = c .before .before .before .before .before .before .before .before .before .before .before .before .before .before .before .before .before .escape-brace .ensures .grows in
-    let g₂ = c .before .before .before .before .before .before .before .before .before .before .close-mark .ensures .grows in
-    record {
-      form = c .before .before .before .before .before .before .before .before .before .before .before .before .before .before .before .before .before .before .before .before .takes-braces .ensures;
-      step = closes-step (c .before .before .before .before .before .before .before .before .before .before .before .before .before .before .before .before .before .before .before .before .takes-braces .result) (a .d) (c .before .before .before .before .before .before .before .before .before .before .before .before .before .before .before .before .before .escape-brace .ensures) (c .before .before .before .before .before .before .before .before .before .before .close-mark .ensures);
-      keeps = closes-keeps (c .before .before .before .before .before .before .before .before .before .before .before .before .before .before .before .before .before .before .before .before .takes-braces .result) (a .d) (c .before .before .before .before .before .before .before .before .before .before .before .before .before .before .before .before .before .escape-brace .ensures) (c .before .before .before .before .before .before .before .before .before .before .close-mark .ensures);
-      grows = omega arith;
-      spans = λ h r. c .before .before .put-span .ensures r ∙ ap (λ (by : ℕ). take (a .c) (a .spans .now) ++ (a .p ∷ c .before .before .before .before .before .before .before .before .before .before .close-mark .result .0 ∷ raised by (drop (a .c + 2) (take (a .e) (a .spans .now))))) (c .before .before .before .one-if .ensures .0);
-    }
-
-same-length-4 : tie.Need-same-length-4
-same-length-4 c = search needs
-
-same-length-5 : tie.Need-same-length-5
-same-length-5 c = search needs
-
-returns-2 : tie.Need-returns-2
-returns-2 c =
-    let a = c .before .before .before .before .before .before .before .before .before .before .before .before .before .before .before .before .before .before .before .before .args in
-    let g₁ = c .before .before .before .before .before .before .before .before .before .before .before .before .escape-brace .ensures .grows in
-    let g₂ = c .before .before .before .before .before .close-mark .ensures .grows in
-    let k₁ = c .before .before .before .before .before .before .before .before .before .before .before .before .escape-brace .kept in
-    let k₂ = c .before .before .before .before .before .close-mark .kept in
-    let z = c .if1 .left in
-    record {
-      form = c .before .before .before .before .before .before .before .before .before .before .before .before .before .before .before .takes-braces .ensures;
-      step = closes-step (c .before .before .before .before .before .before .before .before .before .before .before .before .before .before .before .takes-braces .result) (a .d) (c .before .before .before .before .before .before .before .before .before .before .before .before .escape-brace .ensures) (c .before .before .before .before .before .close-mark .ensures);
-      keeps = closes-keeps (c .before .before .before .before .before .before .before .before .before .before .before .before .before .before .before .takes-braces .result) (a .d) (c .before .before .before .before .before .before .before .before .before .before .before .before .escape-brace .ensures) (c .before .before .before .before .before .close-mark .ensures);
-      grows = omega arith;
-      spans = λ h r. absurd (omega arith);
-    }
+    let s = c .before .before .before .before .before .before .before .before .before .before .before .before .before in
+    let m = c .before .before .before .before .before .before .finish in
+    let x = length-take-le (s .args .end) (s .args .buf .now) (s .pre .1 .0) in
+    let y = length-take-le (s .args .end) (s .args .nums .now) (s .pre .1 .1) in
+    finished-in (s .args .buf .now) (s .args .nums .now) _ _ (s .args .end) (m .kept .0 ∙ x) (m .kept .1 .0 ∙ y) (m .ensures)
 
 pub finish-mark-spec : {M : Type 1} → statement M
 finish-mark-spec =
     tie.close
     (tie.spec
-    add-takes-braces
-    takes-braces-requires
-    add-escape-brace
-    escape-brace-requires
-    close-mark-requires
-    one-if-requires
-    put-span-requires
+    slice-relend-prefix-finish
+    slice-aggregate-finish
+    slice-relend-prefix-finish-2
+    slice-aggregate-finish-2
+    finish-requires
     same-length
     same-length-2
     same-length-3
-    returns
-    same-length-4
-    same-length-5
-    returns-2)
+    returns)

@@ -28,12 +28,12 @@ is-even-requires c κs = search needs
 returns : tie.Need-returns
 returns c =
     let a = c .before .before .before .before .before .before .args in
-    touches (a .src .now) (a .a) (a .last) (a .touches) _ (c .before .before .before .before .if1 .taken) (c .before .before .is-touching .ensures) _ (c .before .if2 .taken) (c .is-even .ensures)
+    touches (a .src .now) (a .a .0) (a .last .0) (a .touches) _ (c .before .before .before .before .if1 .taken) (c .before .before .is-touching .ensures) _ (c .before .if2 .taken) (c .is-even .ensures)
 
 returns-2 : tie.Need-returns-2
 returns-2 c =
     let a = c .before .before .before .before .before .args in
-    touches-not (a .src .now) (a .a) (a .last) (a .touches) _ (c .before .before .before .if1 .taken) (c .before .is-touching .ensures) (c .if2 .left)
+    touches-not (a .src .now) (a .a .0) (a .last .0) (a .touches) _ (c .before .before .before .if1 .taken) (c .before .is-touching .ensures) (c .if2 .left)
 
 returns-3 : tie.Need-returns-3
 returns-3 c = search needs

@@ -9,10 +9,10 @@ use Rattle.mark_pieces.proofs.piece.insert.Statement.{statement}
 use Rattle.mark_pieces.proofs.piece.insert.Tie as tie
 
 abbrev Inv-loop : tie.InvT-loop
-Inv-loop buf₀ nums₀ p b end i₀ buf nums i = (p ≤ i) × (i ≤ end) × (length buf ≡ length buf₀) × (length nums ≡ length nums₀) × Moved (cells buf₀ nums₀) (cells buf nums) i end
+Inv-loop buf₀ nums₀ b first end i₀ buf nums i = (first ≤ i) × (i ≤ end) × (length buf ≡ length buf₀) × (length nums ≡ length nums₀) × Moved (cells buf₀ nums₀) (cells buf nums) i end
 
 abbrev μ-loop : tie.MeasureT-loop
-μ-loop buf₀ nums₀ p b end i₀ buf nums i = i
+μ-loop buf₀ nums₀ b first end i₀ buf nums i = i
 
 returns : tie.Need-returns Inv-loop μ-loop
 returns c =
@@ -67,8 +67,8 @@ mul-nums-3 c = search needs
 slice-write-nums-2 : tie.Need-slice-write-nums-2 Inv-loop μ-loop
 slice-write-nums-2 c = search needs
 
-add-t8 : tie.Need-add-t8 Inv-loop μ-loop
-add-t8 c = search needs
+add-t9 : tie.Need-add-t9 Inv-loop μ-loop
+add-t9 c = search needs
 
 same-length : tie.Need-same-length Inv-loop μ-loop
 same-length c = search needs
@@ -80,7 +80,7 @@ returns-2 : tie.Need-returns-2 Inv-loop μ-loop
 returns-2 c =
     let l = c .before .loop in
     let a = c .before .before .before .args in
-    let e : a .p ≡ l .i = omega arith in
+    let e : a .p .0 ≡ l .i = omega arith in
     rw e (insert-done _ _ _ _ (l .i) _ (omega arith) (l .inv .2) (l .inv .3) (omega arith) (l .inv .4) (a .b) (omega arith))
 
 pub insert-spec : {M : Type 1} → statement M
@@ -105,7 +105,7 @@ insert-spec =
     slice-write-buf-2
     mul-nums-3
     slice-write-nums-2
-    add-t8
+    add-t9
     same-length
     same-length-2
     returns-2)

@@ -10,10 +10,10 @@ use Rattle.mark_pieces.proofs.piece.is_even.Statement.{statement}
 use Rattle.mark_pieces.proofs.piece.is_even.Tie as tie
 
 abbrev Inv-loop : tie.InvT-loop
-Inv-loop s a e even₀ i₀ even i = (a ≤ i) × (i ≤ e) × (with even (evenRun true (drop a (take i s))) ≡ evenRun true (drop a (take e s)))
+Inv-loop s first even₀ i₀ even i = (first ≤ i) × (i ≤ i₀) × (with even (evenRun true (drop first (take i s))) ≡ evenRun true (drop first (take i₀ s)))
 
 abbrev μ-loop : tie.MeasureT-loop
-μ-loop s a e even₀ i₀ even i = i
+μ-loop s first even₀ i₀ even i = i
 
 loop-holds : tie.Need-loop-holds Inv-loop μ-loop
 loop-holds c = (search needs, search needs, refl)
@@ -28,7 +28,7 @@ returns : tie.Need-returns Inv-loop μ-loop
 returns c =
     let l = c .before .before .before .loop in
     let a = c .before .before .before .before .args in
-    sym (even-other (a .s .now) (a .a) (l .i) (l .even) (omega arith) (omega arith) (c .if1 .taken)) ∙ l .inv .2
+    sym (even-other (a .s .now) (a .a .0) (l .i) (l .even) (omega arith) (omega arith) (c .if1 .taken)) ∙ l .inv .2
 
 sub-i : tie.Need-sub-i Inv-loop μ-loop
 sub-i c = search needs
@@ -40,13 +40,13 @@ loop-again : tie.Need-loop-again Inv-loop μ-loop
 loop-again c =
     let l = c .before .before .before .loop in
     let a = c .before .before .before .before .args in
-    (search needs, search needs, even-turn (a .s .now) (a .a) (l .i) (l .even) (omega arith) (omega arith) (c .if1 .left) ∙ l .inv .2)
+    (search needs, search needs, even-turn (a .s .now) (a .a .0) (l .i) (l .even) (omega arith) (omega arith) (c .if1 .left) ∙ l .inv .2)
 
 returns-2 : tie.Need-returns-2 Inv-loop μ-loop
 returns-2 c =
     let l = c .before .loop in
     let a = c .before .before .args in
-    sym (even-none (a .s .now) (a .a) (l .i) (l .even) (omega arith)) ∙ l .inv .2
+    sym (even-none (a .s .now) (a .a .0) (l .i) (l .even) (omega arith)) ∙ l .inv .2
 
 pub is-even-spec : {M : Type 1} → statement M
 is-even-spec =

@@ -1,7 +1,7 @@
 use borrow.Author.Needs.{needs}
 use mathlib.Core.Path.{refl}
 use Prim.Native.Nat.{_-_}
-use Rattle.mark_pieces.proofs.Pieces.{piece-by}
+use Rattle.mark_pieces.proofs.Besides.{piece-in}
 use Rattle.mark_pieces.proofs.piece.write_piece.Statement.{statement}
 use Rattle.mark_pieces.proofs.piece.write_piece.Tie as tie
 
@@ -11,8 +11,8 @@ sub-last c = search needs
 escapes-last-requires : tie.Need-escapes-last-requires
 escapes-last-requires c κs = search needs
 
-shared-slice-read-put-backslash : tie.Need-shared-slice-read-put-backslash
-shared-slice-read-put-backslash c = search needs
+slice-read-guards : tie.Need-slice-read-guards
+slice-read-guards c = search needs
 
 put-backslash-requires : tie.Need-put-backslash-requires
 put-backslash-requires c κs = search needs
@@ -28,8 +28,8 @@ same-length-2 c = search needs
 
 returns : tie.Need-returns
 returns c =
-    let a = c .before .before .before .before .before .before .before .before .before .before .before .before .before .before .before .before .before .before .before .before .before in
-    piece-by (a .args .src .now) (a .args .from .now) (a .args .a .0) (a .args .e .0) (a .pre .0) (a .pre .1 .0) (a .pre .1 .1) (a .args .guarded) (a .args .touches) _ _ refl (c .before .before .before .before .before .before .before .before .before .before .before .before .before .before .before .escapes-last .ensures)
+    let s = c .before .before .before .before .before .before .before .before .before .before .before .before .before .before .before .before .before .before .before .before in
+    piece-in (s .args .buf .now) (s .args .nums .now) (s .args .a .0) (s .args .e .0) (s .pre .0 .0) (s .pre .1 .0) (s .pre .1 .1) (s .args .guarded) (s .args .touches) _ _ (s .pre .0 .1) refl (c .before .before .before .before .before .before .before .before .before .before .before .before .before .before .before .escapes-last .ensures)
     (c .before .before .before .before .before .before .before .before .before .before .before .put-backslash .ensures) (c .before .before .before .before .copy-escaped .ensures)
 
 pub write-piece-spec : {M : Type 1} → statement M
@@ -38,7 +38,7 @@ write-piece-spec =
     (tie.spec
     sub-last
     escapes-last-requires
-    shared-slice-read-put-backslash
+    slice-read-guards
     put-backslash-requires
     copy-escaped-requires
     same-length

@@ -1,18 +1,19 @@
 use borrow.Author.Needs.{needs}
 use native.Mathlib.Omega.{arith}
-use mathlib.Core.Path.{_≡_, refl, _∙_}
-use Prim.Native.Nat.{ℕ, _+_, _-_, _*_, _<_}
+use mathlib.Core.Path.{_≡_, refl, sym, ap, _∙_}
+use Prim.Native.Nat.{ℕ, _+_, _-_, _*_, _%_, _<_}
 use lib.ListN.{length, getD}
+use lib.Count.{ones}
 use borrow.Fn.Kinds.{In}
 use borrow.Fn.PlainCycle.{Measures, is, falls, and}
-use lib.Count.{ones}
-use Rattle.text.specs.Cells.{cells}
-use Rattle.mark_tags.specs.Flat.{boundAt}
-use Rattle.mark_writing.proofs.Slotting.{bounds}
-use Rattle.mark_writing.proofs.Looking.{here-start, mark-deep, mark-ready}
-use Rattle.mark_writing.proofs.SlotWriting.{Drawing, drawing-start, drawn-end, drawn-leave, drawn-gone, drawn-nothing, drawn-text, drawn-empty, drawn-mark, fresh-later}
+use Rattle.mark_tags.specs.Marks.{delimiter}
+use Rattle.mark_tags.specs.Flat.{kindNumbered, bitOf}
+use Rattle.mark_pieces.specs.Behind.{Behind}
+use Rattle.mark_writing.specs.Laid.{source, table, area}
+use Rattle.mark_writing.proofs.SlotWriting.{Drawing, drawing-start, drawn-end, drawn-leave, drawn-mark}
 use Rattle.mark_writing.proofs.SlotAsking.{ones-few, fresh-ready, mark-few, mark-slot, mark-falls}
-use Rattle.mark_writing.proofs.MarkWriting.{last-piece, spans-few, cells-kept, bodied}
+use Rattle.mark_writing.proofs.MarkWriting.{spans-few, bodied}
+use Rattle.mark_writing.proofs.Inwards.{behind-none, behind-then, behind-appends, same-source, same-table, area-appends, area-same, area-cells, source-size, table-in, piece-area, lies-on, code-as, held-as, ready-as, looked-as, slot-as, mark-ready-as, slot-written-as, mark-written-as, skip-forward, piece-inside, drawn-skip, drawn-piece}
 use Rattle.mark_writing.proofs.slot.write_mark.Reads as write-mark
 use Rattle.mark_writing.proofs.slot.write_mark.Kinds as write-mark-kinds
 use Rattle.mark_writing.proofs.slot.+write_mark+write_slot.Lts-write_mark as write-mark-lts
@@ -22,45 +23,48 @@ use Rattle.mark_writing.proofs.slot.+write_mark+write_slot.Lts-write_sl
 use Rattle.mark_items.proofs.items.bit_of.Reads as bit-of-reads
 use Rattle.mark_pieces.proofs.mark.delimiter_of.Reads as delimiter-of-reads
 use Rattle.mark_pieces.proofs.piece.write_piece.Reads as write-piece-reads
-use Rattle.mark_writing.proofs.slot.content_of.Reads as content-of-reads
 use Rattle.mark_writing.proofs.slot.end_mark.Reads as end-mark-reads
-use Rattle.mark_writing.proofs.slot.is_one_text.Reads as is-one-text-reads
-use Rattle.mark_writing.proofs.slot.touches_mark.Reads as touches-mark-reads
+use Rattle.mark_writing.proofs.slot.is_text_at.Reads as is-text-at-reads
+use Rattle.mark_writing.proofs.slot.kind_at.Reads as kind-at-reads
+use Rattle.mark_writing.proofs.slot.seen_at.Reads as seen-at-reads
 use Rattle.mark_writing.proofs.slot.write_text.Reads as write-text-reads
-use Rattle.text.proofs.write.put_sign.Reads as put-sign-reads
+use Rattle.text.proofs.area.put_sign_in.Reads as put-sign-in-reads
+use Rattle.text.proofs.in_work.Reads as in-work-reads
 use Rattle.mark_writing.proofs.slot.+write_mark+write_slot.{statement}
 use Rattle.mark_writing.proofs.slot.+write_mark+write_slot.Tie.{close}
 
-abbrev μ-write-mark : Measures 5 write-mark-kinds.ps ℕ
+abbrev μ-write-mark : Measures 3 write-mark-kinds.ps ℕ
 μ-write-mark κs a = 2 * (4 - ones (a .1 .1 .1 .1 .0))
 
-abbrev μ-write-slot : Measures 5 write-slot-kinds.ps ℕ
+abbrev μ-write-slot : Measures 3 write-slot-kinds.ps ℕ
 μ-write-slot κs a = 2 * (4 - ones (a .1 .1 .1 .1 .0)) + 1
 
-abbrev write-mark-at : ℕ → In 5 write-mark-kinds.ps
+abbrev write-mark-at : ℕ → In 3 write-mark-kinds.ps
 write-mark-at t =
-    and 5 write-mark-kinds.ps (is 5 write-mark-kinds.ps μ-write-mark t) write-mark.Pre
+    and 3 write-mark-kinds.ps (is 3 write-mark-kinds.ps μ-write-mark t) write-mark.Pre
 
-abbrev write-mark-below : ℕ → In 5 write-mark-kinds.ps
+abbrev write-mark-below : ℕ → In 3 write-mark-kinds.ps
 write-mark-below t =
-    and 5 write-mark-kinds.ps (falls 5 write-mark-kinds.ps _<_ μ-write-mark t) write-mark.Pre
+    and 3 write-mark-kinds.ps (falls 3 write-mark-kinds.ps _<_ μ-write-mark t) write-mark.Pre
 
-abbrev write-slot-at : ℕ → In 5 write-slot-kinds.ps
+abbrev write-slot-at : ℕ → In 3 write-slot-kinds.ps
 write-slot-at t =
-    and 5 write-slot-kinds.ps (is 5 write-slot-kinds.ps μ-write-slot t) write-slot.Pre
+    and 3 write-slot-kinds.ps (is 3 write-slot-kinds.ps μ-write-slot t) write-slot.Pre
 
-abbrev write-slot-below : ℕ → In 5 write-slot-kinds.ps
+abbrev write-slot-below : ℕ → In 3 write-slot-kinds.ps
 write-slot-below t =
-    and 5 write-slot-kinds.ps (falls 5 write-slot-kinds.ps _<_ μ-write-slot t) write-slot.Pre
+    and 3 write-slot-kinds.ps (falls 3 write-slot-kinds.ps _<_ μ-write-slot t) write-slot.Pre
 
 abbrev write-mark-calls : ℕ → write-mark-lts.Claims
 write-mark-calls t = (
+  kind-at-reads.Asked,
+  kind-at-reads.Learnt,
   delimiter-of-reads.Asked,
   delimiter-of-reads.Learnt,
-  put-sign-reads.Asked,
-  put-sign-reads.Learnt,
-  is-one-text-reads.Asked,
-  is-one-text-reads.Learnt,
+  put-sign-in-reads.Asked,
+  put-sign-in-reads.Learnt,
+  is-text-at-reads.Asked,
+  is-text-at-reads.Learnt,
   write-text-reads.Asked,
   write-text-reads.Learnt,
   end-mark-reads.Asked,
@@ -73,138 +77,296 @@ write-mark-calls t = (
 
 abbrev write-slot-calls : ℕ → write-slot-lts.Claims
 write-slot-calls t = (
-  touches-mark-reads.Asked,
-  touches-mark-reads.Learnt,
+  seen-at-reads.Asked,
+  seen-at-reads.Learnt,
+  in-work-reads.Asked,
+  in-work-reads.Learnt,
   write-piece-reads.Asked,
   write-piece-reads.Learnt,
-  content-of-reads.Asked,
-  content-of-reads.Learnt,
   write-mark-below t,
   write-mark.Post,
 )
 
-write-mark-mul-kind : (t : ℕ) → write-mark-lts.Need-mul-kind (write-mark-calls t) (write-mark-at t) write-mark.Post
-write-mark-mul-kind t c = let m = c .before .before .before .before .before .pre .1 in let tb = m .slot .table in let sm = tb .small in let rm = tb .room in let fw = tb .few in let ins = m .inside in search needs
-
-write-mark-add-kind : (t : ℕ) → write-mark-lts.Need-add-kind (write-mark-calls t) (write-mark-at t) write-mark.Post
-write-mark-add-kind t c = let m = c .before .before .before .before .before .pre .1 in let tb = m .slot .table in let sm = tb .small in let rm = tb .room in let fw = tb .few in let ins = m .inside in search needs
-
-write-mark-add-kind-2 : (t : ℕ) → write-mark-lts.Need-add-kind-2 (write-mark-calls t) (write-mark-at t) write-mark.Post
-write-mark-add-kind-2 t c = let m = c .before .before .before .before .before .pre .1 in let tb = m .slot .table in let sm = tb .small in let rm = tb .room in let fw = tb .few in let ins = m .inside in search needs
-
-write-mark-mul-kind-2 : (t : ℕ) → write-mark-lts.Need-mul-kind-2 (write-mark-calls t) (write-mark-at t) write-mark.Post
-write-mark-mul-kind-2 t c = let m = c .before .before .before .before .before .pre .1 in let tb = m .slot .table in let sm = tb .small in let rm = tb .room in let fw = tb .few in let ins = m .inside in search needs
-
-write-mark-shared-slice-read-kind : (t : ℕ) → write-mark-lts.Need-shared-slice-read-kind (write-mark-calls t) (write-mark-at t) write-mark.Post
-write-mark-shared-slice-read-kind t c = let m = c .before .before .before .before .before .before .pre .1 in let tb = m .slot .table in let sm = tb .small in let rm = tb .room in let fw = tb .few in let ins = m .inside in search needs
+write-mark-kind-at-requires : (t : ℕ) → write-mark-lts.Need-kind-at-requires (write-mark-calls t) (write-mark-at t) write-mark.Post
+write-mark-kind-at-requires t c κs =
+    let s = c .before .before .before .before in
+    let a = s .args in
+    let m = s .pre .1 .0 in
+    let ls = s .pre .1 .1 in
+    let bh = ls .behind in
+    let ins = ls .inside in
+    let tb = table-in (a .w) (a .work .now) (a .numbers .now) (m .slot .table, ls) in
+    let rm = tb .room in
+    (tb, m .inside)
 
 write-mark-delimiter-of-requires : (t : ℕ) → write-mark-lts.Need-delimiter-of-requires (write-mark-calls t) (write-mark-at t) write-mark.Post
 write-mark-delimiter-of-requires t c κs = search needs
 
-write-mark-put-sign-requires : (t : ℕ) → write-mark-lts.Need-put-sign-requires (write-mark-calls t) (write-mark-at t) write-mark.Post
-write-mark-put-sign-requires t c κs = search needs
+write-mark-put-sign-in-requires : (t : ℕ) → write-mark-lts.Need-put-sign-in-requires (write-mark-calls t) (write-mark-at t) write-mark.Post
+write-mark-put-sign-in-requires t c κs =
+    let s = c .before .before .before .before .before .before .before .before in
+    let a = s .args in
+    let m = s .pre .1 .0 in
+    let ls = s .pre .1 .1 in
+    let bh = ls .behind in
+    let ins = ls .inside in
+    let tb = table-in (a .w) (a .work .now) (a .numbers .now) (m .slot .table, ls) in
+    let rm = tb .room in
+    (omega (arith, bh, ins), omega (arith, bh, rm))
 
-write-mark-add-is-one-text : (t : ℕ) → write-mark-lts.Need-add-is-one-text (write-mark-calls t) (write-mark-at t) write-mark.Post
-write-mark-add-is-one-text t c = let m = c .before .before .before .before .before .before .before .before .before .before .before .before .before .before .pre .1 in let tb = m .slot .table in let sm = tb .small in let rm = tb .room in let fw = tb .few in let ins = m .inside in search needs
+write-mark-add-is-text-at : (t : ℕ) → write-mark-lts.Need-add-is-text-at (write-mark-calls t) (write-mark-at t) write-mark.Post
+write-mark-add-is-text-at t c =
+    let s = c .before .before .before .before .before .before .before .before .before .before .before .before .before .before .before in
+    let a = s .args in
+    let m = s .pre .1 .0 in
+    let ls = s .pre .1 .1 in
+    let bh = ls .behind in
+    let ins = ls .inside in
+    let tb = table-in (a .w) (a .work .now) (a .numbers .now) (m .slot .table, ls) in
+    let rm = tb .room in
+    let sm = tb .small in let fw = tb .few in let inside = m .inside in search needs
 
-write-mark-is-one-text-requires : (t : ℕ) → write-mark-lts.Need-is-one-text-requires (write-mark-calls t) (write-mark-at t) write-mark.Post
-write-mark-is-one-text-requires t c κs = let m = c .before .before .before .before .before .before .before .before .before .before .before .before .before .before .pre .1 in let i = m .inside in (m .slot .table, omega arith)
+write-mark-is-text-at-requires : (t : ℕ) → write-mark-lts.Need-is-text-at-requires (write-mark-calls t) (write-mark-at t) write-mark.Post
+write-mark-is-text-at-requires t c κs =
+    let s = c .before .before .before .before .before .before .before .before .before .before .before .before .before .before .before in
+    let a = s .args in
+    let m = s .pre .1 .0 in
+    let ls = s .pre .1 .1 in
+    let bh = ls .behind in
+    let ins = ls .inside in
+    let tb = table-in (a .w) (a .work .now) (a .numbers .now) (m .slot .table, ls) in
+    let rm = tb .room in
+    let sign = c .before .before .before .before .before .before .put-sign-in in
+    let o = behind-appends (sign .ensures) in
+    let os = same-source (a .w) bh o in
+    let ot = same-table (a .w) bh o in
+    let inside = m .inside in ((held-as (sym os) (sym ot) (m .slot .table), lies-on ls (sign .kept .0)), omega arith)
 
 write-mark-add-write-text : (t : ℕ) → write-mark-lts.Need-add-write-text (write-mark-calls t) (write-mark-at t) write-mark.Post
-write-mark-add-write-text t c = let m = c .before .before .before .before .before .before .before .before .before .before .before .before .before .before .before .before .pre .1 in let tb = m .slot .table in let sm = tb .small in let rm = tb .room in let fw = tb .few in let ins = m .inside in search needs
+write-mark-add-write-text t c =
+    let s = c .before .before .before .before .before .before .before .before .before .before .before .before .before .before .before .before .before .before .before in
+    let a = s .args in
+    let m = s .pre .1 .0 in
+    let ls = s .pre .1 .1 in
+    let bh = ls .behind in
+    let ins = ls .inside in
+    let tb = table-in (a .w) (a .work .now) (a .numbers .now) (m .slot .table, ls) in
+    let rm = tb .room in
+    let sm = tb .small in let fw = tb .few in let inside = m .inside in search needs
 
 write-mark-add-write-text-2 : (t : ℕ) → write-mark-lts.Need-add-write-text-2 (write-mark-calls t) (write-mark-at t) write-mark.Post
-write-mark-add-write-text-2 t c = let r = mark-few (c .before .before .before .before .before .before .before .before .before .before .before .before .before .before .before .before .before .before .pre .1) in omega arith
+write-mark-add-write-text-2 t c = let r = mark-few (c .before .before .before .before .before .before .before .before .before .before .before .before .before .before .before .before .before .before .before .pre .1 .0) in omega arith
 
 write-mark-write-text-requires : (t : ℕ) → write-mark-lts.Need-write-text-requires (write-mark-calls t) (write-mark-at t) write-mark.Post
-write-mark-write-text-requires t c κs = (c .before .before .before .before .before .before .before .before .before .before .before .before .before .before .before .before .before .before .pre .1 .slot .table, c .before .before .before .is-one-text .ensures (c .before .before .if1 .taken))
+write-mark-write-text-requires t c κs =
+    let s = c .before .before .before .before .before .before .before .before .before .before .before .before .before .before .before .before .before .before .before in
+    let a = s .args in
+    let m = s .pre .1 .0 in
+    let ls = s .pre .1 .1 in
+    let bh = ls .behind in
+    let ins = ls .inside in
+    let tb = table-in (a .w) (a .work .now) (a .numbers .now) (m .slot .table, ls) in
+    let rm = tb .room in
+    let sign = c .before .before .before .before .before .before .before .before .before .before .put-sign-in in
+    let o = behind-appends (sign .ensures) in
+    let os = same-source (a .w) bh o in
+    let ot = same-table (a .w) bh o in
+    ((held-as (sym os) (sym ot) (m .slot .table), lies-on ls (sign .kept .0)), c .before .before .before .is-text-at .ensures (c .before .before .if1 .taken))
 
 abbrev write-mark-end-mark-requires : (t : ℕ) → write-mark-lts.Need-end-mark-requires (write-mark-calls t) (write-mark-at t) write-mark.Post
 write-mark-end-mark-requires t c κs =
-    let sign = c .before .before .before .before .before .before .before .before .before .before .before .before .before .before .before .before .put-sign in
+    let s = c .before .before .before .before .before .before .before .before .before .before .before .before .before .before .before .before .before .before .before .before .before .before .before .before .before .before .before in
+    let a = s .args in
+    let m = s .pre .1 .0 in
+    let ls = s .pre .1 .1 in
+    let bh = ls .behind in
+    let ins = ls .inside in
+    let tb = table-in (a .w) (a .work .now) (a .numbers .now) (m .slot .table, ls) in
+    let rm = tb .room in
+    let n = source-size (a .w) (a .work .now) ls in
+    let kind = c .before .before .before .before .before .before .before .before .before .before .before .before .before .before .before .before .before .before .before .before .before .before .kind-at .ensures ∙ ap (λ (j : ℕ). getD (table (a .w) (a .numbers .now)) (2 * j + 2 + a .i) 0 % 4) (sym n) in
+    let sign = c .before .before .before .before .before .before .before .before .before .before .before .before .before .before .before .before .before .before .put-sign-in in
+    let o = behind-appends (sign .ensures) in
+    let os = same-source (a .w) bh o in
+    let ot = same-table (a .w) bh o in
+    let lo = area-same (a .w .end) (a .work .now) _ (omega (arith, bh, ins)) (sign .kept .0) in
+    let lg = area-same (a .w .end) (a .numbers .now) _ (omega (arith, bh, rm)) (sign .kept .1 .0) in
     let body = c .before .before .before .before .before .before .before .write-text in
-    bodied _ _ (c .before .before .before .before .before .before .before .before .before .before .before .before .before .before .before .before .before .before .before .before .before .before .before .before .before .before .pre .1) (c .before .before .before .before .before .before .before .before .before .before .before .before .before .before .before .before .before .before .before .delimiter-of .ensures) (sign .kept .0) (sign .kept .1 .0) (body .kept .1 .1 .1 .1 .0) (body .kept .1 .1 .1 .1 .1 .0) refl (sign .ensures) (body .ensures _)
+    let p = behind-then o (body .ensures .1) in
+    let zs = same-source (a .w) bh p in
+    let zt = same-table (a .w) bh p in
+    let ys = same-source (a .w) bh (body .ensures .1) in
+    let yt = same-table (a .w) bh (body .ensures .1) in
+    let kind' = kind ∙ ap (λ (x : ℕ). x % 4) (code-as (a .i) (sym zs) (sym zt)) in (
+      bodied _ _ (mark-ready-as (sym zs) (sym zt) m) (c .before .before .before .before .before .before .before .before .before .before .before .before .before .before .before .before .before .before .before .before .before .delimiter-of .ensures ∙ ap (λ (x : ℕ). delimiter (kindNumbered x)) kind') lo lg
+          (area-same (a .w .end) _ _ (omega (arith, bh, ins, sign .kept .0)) (body .kept .0)) (area-same (a .w .end) _ _ (omega (arith, bh, rm, sign .kept .1 .0)) (body .kept .1 .0))
+          refl (area-appends (sign .ensures)) (slot-written-as (sym ys) (sym yt) (body .ensures .0 (a .spans .now))),
+      lies-on (lies-on ls (sign .kept .0)) (body .kept .0),
+    )
 
 write-mark-same-length : (t : ℕ) → write-mark-lts.Need-same-length (write-mark-calls t) (write-mark-at t) write-mark.Post
-write-mark-same-length t c = c .before .before .before .before .before .before .end-mark .kept .1 .1 .1 .1 .1 .1 .1 .0 ∙ c .before .before .before .before .before .before .before .before .before .before .before .before .before .before .write-text .kept .1 .1 .1 .1 .0 ∙ c .before .before .before .before .before .before .before .before .before .before .before .before .before .before .before .before .before .before .before .before .before .before .before .put-sign .kept .0
+write-mark-same-length t c =
+    c .before .before .before .before .before .before .end-mark .kept .0 ∙ c .before .before .before .before .before .before .before .before .before .before .before .before .before .before .write-text .kept .0 ∙ c .before .before .before .before .before .before .before .before .before .before .before .before .before .before .before .before .before .before .before .before .before .before .before .before .before .put-sign-in .kept .0
 
 write-mark-same-length-2 : (t : ℕ) → write-mark-lts.Need-same-length-2 (write-mark-calls t) (write-mark-at t) write-mark.Post
-write-mark-same-length-2 t c = search needs
+write-mark-same-length-2 t c =
+    c .before .before .before .before .before .before .end-mark .kept .1 .0 ∙ c .before .before .before .before .before .before .before .before .before .before .before .before .before .before .write-text .kept .1 .0 ∙ c .before .before .before .before .before .before .before .before .before .before .before .before .before .before .before .before .before .before .before .before .before .before .before .before .before .put-sign-in .kept .1 .0
 
 write-mark-same-length-3 : (t : ℕ) → write-mark-lts.Need-same-length-3 (write-mark-calls t) (write-mark-at t) write-mark.Post
-write-mark-same-length-3 t c = search needs
+write-mark-same-length-3 t c = c .before .before .before .before .before .before .end-mark .kept .1 .1 .1 .1 .0
 
 write-mark-returns : (t : ℕ) → write-mark-lts.Need-returns (write-mark-calls t) (write-mark-at t) write-mark.Post
-write-mark-returns t c = c .before .before .before .before .before .before .end-mark .ensures (write-mark-end-mark-requires t (c .before .before .before .before .before .before .before) (c .before .before .before .before .before .before .before .before .before .before .before .before .before .before .before .before .before .before .before .before .before .before .before .before .before .before .before .before .before .before .before .before .before .κs))
+write-mark-returns t c =
+    let s = c .before .before .before .before .before .before .before .before .before .before .before .before .before .before .before .before .before .before .before .before .before .before .before .before .before .before .before .before .before .before .before .before .before .before in
+    let a = s .args in
+    let bh = s .pre .1 .1 .behind in
+    let sign = c .before .before .before .before .before .before .before .before .before .before .before .before .before .before .before .before .before .before .before .before .before .before .before .before .before .put-sign-in in
+    let body = c .before .before .before .before .before .before .before .before .before .before .before .before .before .before .write-text in
+    let marked = c .before .before .before .before .before .before .end-mark in
+    let p = behind-then (behind-appends (sign .ensures)) (body .ensures .1) in
+    (mark-written-as (same-source (a .w) bh p) (same-table (a .w) bh p) (marked .ensures .0 (write-mark-end-mark-requires t (c .before .before .before .before .before .before .before) (s .κs) .0)), behind-then p (marked .ensures .1))
 
 write-mark-add-write-slot : (t : ℕ) → write-mark-lts.Need-add-write-slot (write-mark-calls t) (write-mark-at t) write-mark.Post
-write-mark-add-write-slot t c = let m = c .before .before .before .before .before .before .before .before .before .before .before .before .before .before .before .before .pre .1 in let tb = m .slot .table in let sm = tb .small in let rm = tb .room in let fw = tb .few in let ins = m .inside in search needs
+write-mark-add-write-slot t c =
+    let s = c .before .before .before .before .before .before .before .before .before .before .before .before .before .before .before .before .before .before .before in
+    let a = s .args in
+    let m = s .pre .1 .0 in
+    let ls = s .pre .1 .1 in
+    let bh = ls .behind in
+    let ins = ls .inside in
+    let tb = table-in (a .w) (a .work .now) (a .numbers .now) (m .slot .table, ls) in
+    let rm = tb .room in
+    let sm = tb .small in let fw = tb .few in let inside = m .inside in search needs
 
 write-mark-bit-of-requires : (t : ℕ) → write-mark-lts.Need-bit-of-requires (write-mark-calls t) (write-mark-at t) write-mark.Post
 write-mark-bit-of-requires t c κs = search needs
 
 write-mark-add-write-slot-2 : (t : ℕ) → write-mark-lts.Need-add-write-slot-2 (write-mark-calls t) (write-mark-at t) write-mark.Post
-write-mark-add-write-slot-2 t c = let r = mark-few (c .before .before .before .before .before .before .before .before .before .before .before .before .before .before .before .before .before .before .before .before .pre .1) in omega arith
+write-mark-add-write-slot-2 t c = let r = mark-few (c .before .before .before .before .before .before .before .before .before .before .before .before .before .before .before .before .before .before .before .before .before .pre .1 .0) in omega arith
 
 write-mark-write-slot-requires : (t : ℕ) → write-mark-lts.Need-write-slot-requires (write-mark-calls t) (write-mark-at t) write-mark.Post
 write-mark-write-slot-requires t c κs =
-    let m = c .before .before .before .before .before .before .before .before .before .before .before .before .before .before .before .before .before .before .before .before .pre .1 in
-    let bit = c .before .before .before .bit-of .ensures in
-    let sign = c .before .before .before .before .before .before .before .before .before .before .put-sign .kept in
+    let s = c .before .before .before .before .before .before .before .before .before .before .before .before .before .before .before .before .before .before .before .before .before in
+    let a = s .args in
+    let m = s .pre .1 .0 in
+    let ls = s .pre .1 .1 in
+    let bh = ls .behind in
+    let ins = ls .inside in
+    let tb = table-in (a .w) (a .work .now) (a .numbers .now) (m .slot .table, ls) in
+    let rm = tb .room in
+    let n = source-size (a .w) (a .work .now) ls in
+    let kind = c .before .before .before .before .before .before .before .before .before .before .before .before .before .before .before .before .kind-at .ensures ∙ ap (λ (j : ℕ). getD (table (a .w) (a .numbers .now)) (2 * j + 2 + a .i) 0 % 4) (sym n) in
+    let sign = c .before .before .before .before .before .before .before .before .before .before .before .before .put-sign-in in
+    let o = behind-appends (sign .ensures) in
+    let os = same-source (a .w) bh o in
+    let ot = same-table (a .w) bh o in
+    let lo = area-same (a .w .end) (a .work .now) _ (omega (arith, bh, ins)) (sign .kept .0) in
+    let lg = area-same (a .w .end) (a .numbers .now) _ (omega (arith, bh, rm)) (sign .kept .1 .0) in
+    let bit = c .before .bit-of .ensures ∙ ap bitOf kind in
     let f = mark-falls m _ bit in
-    (omega arith, mark-slot m _ _ _ bit (sign .0) (sign .1 .0))
+    (omega arith, (slot-as (sym os) (sym ot) (mark-slot m _ _ _ bit lo lg), lies-on ls (sign .kept .0)))
 
 abbrev write-mark-end-mark-requires-2 : (t : ℕ) → write-mark-lts.Need-end-mark-requires-2 (write-mark-calls t) (write-mark-at t) write-mark.Post
 write-mark-end-mark-requires-2 t c κs =
-    let sign = c .before .before .before .before .before .before .before .before .before .before .before .before .before .before .before .before .before .before .before .before .put-sign in
+    let s = c .before .before .before .before .before .before .before .before .before .before .before .before .before .before .before .before .before .before .before .before .before .before .before .before .before .before .before .before .before .before .before in
+    let a = s .args in
+    let m = s .pre .1 .0 in
+    let ls = s .pre .1 .1 in
+    let bh = ls .behind in
+    let ins = ls .inside in
+    let tb = table-in (a .w) (a .work .now) (a .numbers .now) (m .slot .table, ls) in
+    let rm = tb .room in
+    let n = source-size (a .w) (a .work .now) ls in
+    let kind = c .before .before .before .before .before .before .before .before .before .before .before .before .before .before .before .before .before .before .before .before .before .before .before .before .before .before .kind-at .ensures ∙ ap (λ (j : ℕ). getD (table (a .w) (a .numbers .now)) (2 * j + 2 + a .i) 0 % 4) (sym n) in
+    let sign = c .before .before .before .before .before .before .before .before .before .before .before .before .before .before .before .before .before .before .before .before .before .before .put-sign-in in
+    let o = behind-appends (sign .ensures) in
+    let os = same-source (a .w) bh o in
+    let ot = same-table (a .w) bh o in
+    let lo = area-same (a .w .end) (a .work .now) _ (omega (arith, bh, ins)) (sign .kept .0) in
+    let lg = area-same (a .w .end) (a .numbers .now) _ (omega (arith, bh, rm)) (sign .kept .1 .0) in
     let body = c .before .before .before .before .before .before .before .before .before .write-slot in
-    bodied _ _ (c .before .before .before .before .before .before .before .before .before .before .before .before .before .before .before .before .before .before .before .before .before .before .before .before .before .before .before .before .before .before .pre .1) (c .before .before .before .before .before .before .before .before .before .before .before .before .before .before .before .before .before .before .before .before .before .before .before .delimiter-of .ensures) (sign .kept .0) (sign .kept .1 .0) (body .kept .1 .1 .1 .1 .1 .0) (body .kept .1 .1 .1 .1 .1 .1 .0) (body .kept .1 .1 .1 .1 .1 .1 .1 .1 .0) (sign .ensures) (body .ensures)
+    let p = behind-then o (body .ensures .1) in
+    let zs = same-source (a .w) bh p in
+    let zt = same-table (a .w) bh p in
+    let ys = same-source (a .w) bh (body .ensures .1) in
+    let yt = same-table (a .w) bh (body .ensures .1) in
+    let kind' = kind ∙ ap (λ (x : ℕ). x % 4) (code-as (a .i) (sym zs) (sym zt)) in (
+      bodied _ _ (mark-ready-as (sym zs) (sym zt) m) (c .before .before .before .before .before .before .before .before .before .before .before .before .before .before .before .before .before .before .before .before .before .before .before .before .before .delimiter-of .ensures ∙ ap (λ (x : ℕ). delimiter (kindNumbered x)) kind') lo lg
+          (area-same (a .w .end) _ _ (omega (arith, bh, ins, sign .kept .0)) (body .kept .0)) (area-same (a .w .end) _ _ (omega (arith, bh, rm, sign .kept .1 .0)) (body .kept .1 .0))
+          (body .kept .1 .1 .1 .1 .1 .1 .0) (area-appends (sign .ensures)) (slot-written-as (sym ys) (sym yt) (body .ensures .0)),
+      lies-on (lies-on ls (sign .kept .0)) (body .kept .0),
+    )
 
 write-mark-same-length-4 : (t : ℕ) → write-mark-lts.Need-same-length-4 (write-mark-calls t) (write-mark-at t) write-mark.Post
-write-mark-same-length-4 t c = c .before .before .before .before .before .before .end-mark2 .kept .1 .1 .1 .1 .1 .1 .1 .0 ∙ c .before .before .before .before .before .before .before .before .before .before .before .before .before .before .before .before .write-slot .kept .1 .1 .1 .1 .1 .0 ∙ c .before .before .before .before .before .before .before .before .before .before .before .before .before .before .before .before .before .before .before .before .before .before .before .before .before .before .before .put-sign .kept .0
+write-mark-same-length-4 t c =
+    c .before .before .before .before .before .before .end-mark2 .kept .0 ∙ c .before .before .before .before .before .before .before .before .before .before .before .before .before .before .before .before .write-slot .kept .0 ∙ c .before .before .before .before .before .before .before .before .before .before .before .before .before .before .before .before .before .before .before .before .before .before .before .before .before .before .before .before .before .put-sign-in .kept .0
 
 write-mark-same-length-5 : (t : ℕ) → write-mark-lts.Need-same-length-5 (write-mark-calls t) (write-mark-at t) write-mark.Post
-write-mark-same-length-5 t c = c .before .before .before .before .before .before .end-mark2 .kept .1 .1 .1 .1 .1 .1 .1 .1 .0 ∙ c .before .before .before .before .before .before .before .before .before .before .before .before .before .before .before .before .write-slot .kept .1 .1 .1 .1 .1 .1 .0 ∙ c .before .before .before .before .before .before .before .before .before .before .before .before .before .before .before .before .before .before .before .before .before .before .before .before .before .before .before .put-sign .kept .1 .0
+write-mark-same-length-5 t c =
+    c .before .before .before .before .before .before .end-mark2 .kept .1 .0 ∙ c .before .before .before .before .before .before .before .before .before .before .before .before .before .before .before .before .write-slot .kept .1 .0 ∙ c .before .before .before .before .before .before .before .before .before .before .before .before .before .before .before .before .before .before .before .before .before .before .before .before .before .before .before .before .before .put-sign-in .kept .1 .0
 
 write-mark-same-length-6 : (t : ℕ) → write-mark-lts.Need-same-length-6 (write-mark-calls t) (write-mark-at t) write-mark.Post
-write-mark-same-length-6 t c = search needs
+write-mark-same-length-6 t c =
+    c .before .before .before .before .before .before .end-mark2 .kept .1 .1 .1 .1 .0 ∙ c .before .before .before .before .before .before .before .before .before .before .before .before .before .before .before .before .write-slot .kept .1 .1 .1 .1 .1 .1 .0
 
 write-mark-returns-2 : (t : ℕ) → write-mark-lts.Need-returns-2 (write-mark-calls t) (write-mark-at t) write-mark.Post
-write-mark-returns-2 t c = c .before .before .before .before .before .before .end-mark2 .ensures (write-mark-end-mark-requires-2 t (c .before .before .before .before .before .before .before) (c .before .before .before .before .before .before .before .before .before .before .before .before .before .before .before .before .before .before .before .before .before .before .before .before .before .before .before .before .before .before .before .before .before .before .before .before .before .κs))
+write-mark-returns-2 t c =
+    let s = c .before .before .before .before .before .before .before .before .before .before .before .before .before .before .before .before .before .before .before .before .before .before .before .before .before .before .before .before .before .before .before .before .before .before .before .before .before .before in
+    let a = s .args in
+    let bh = s .pre .1 .1 .behind in
+    let sign = c .before .before .before .before .before .before .before .before .before .before .before .before .before .before .before .before .before .before .before .before .before .before .before .before .before .before .before .before .before .put-sign-in in
+    let body = c .before .before .before .before .before .before .before .before .before .before .before .before .before .before .before .before .write-slot in
+    let marked = c .before .before .before .before .before .before .end-mark2 in
+    let p = behind-then (behind-appends (sign .ensures)) (body .ensures .1) in
+    (mark-written-as (same-source (a .w) bh p) (same-table (a .w) bh p) (marked .ensures .0 (write-mark-end-mark-requires-2 t (c .before .before .before .before .before .before .before) (s .κs) .0)), behind-then p (marked .ensures .1))
 
 abbrev write-slot-Inv-loop : write-slot-lts.InvT-loop
-write-slot-Inv-loop text nums k from mask out₀ origins₀ spans₀ count n depth i₀ to₀ c₀ before₀ guarded₀ out origins spans i to c before guarded =
-    (length out ≡ length out₀) × (length origins ≡ length origins₀) × (length spans ≡ length spans₀) × Drawing text nums k from mask (cells out₀ origins₀) to₀ spans₀ count (cells out origins) to spans c i before guarded
+write-slot-Inv-loop work₀ numbers₀ w from mask spans₀ count depth k i₀ to₀ c₀ before₀ guarded₀ work numbers spans i to c before guarded =
+    (length work ≡ length work₀) × (length numbers ≡ length numbers₀) × (length spans ≡ length spans₀)
+    × Drawing (source w work₀) (table w numbers₀) k from mask (area w work₀ numbers₀) (to₀ .0) spans₀ count (area w work numbers) (to .0) spans c i before guarded × Behind (w .end) work₀ numbers₀ work numbers
 
 abbrev write-slot-μ-loop : write-slot-lts.MeasureT-loop
-write-slot-μ-loop text nums k from mask out₀ origins₀ spans₀ count n depth i₀ to₀ c₀ before₀ guarded₀ out origins spans i to c before guarded = k - i
+write-slot-μ-loop work₀ numbers₀ w from mask spans₀ count depth k i₀ to₀ c₀ before₀ guarded₀ work numbers spans i to c before guarded = k - i
 
 write-slot-cast-depth : (t : ℕ) → write-slot-lts.Need-cast-depth (write-slot-calls t) (write-slot-at t) write-slot.Post write-slot-Inv-loop write-slot-μ-loop
-write-slot-cast-depth t c = let f = ones-few (c .before .before .before .before .before .args .mask) (c .before .before .before .before .before .pre .1 .small) in omega arith
+write-slot-cast-depth t c =
+    let s = c .before .before .before in let f = ones-few (s .args .mask) (s .pre .1 .0 .small) in omega arith
 
 write-slot-sub-depth : (t : ℕ) → write-slot-lts.Need-sub-depth (write-slot-calls t) (write-slot-at t) write-slot.Post write-slot-Inv-loop write-slot-μ-loop
-write-slot-sub-depth t c = let f = ones-few (c .before .before .before .before .before .args .mask) (c .before .before .before .before .before .pre .1 .small) in omega arith
+write-slot-sub-depth t c =
+    let s = c .before .before .before in let f = ones-few (s .args .mask) (s .pre .1 .0 .small) in omega arith
 
 write-slot-loop-holds : (t : ℕ) → write-slot-lts.Need-loop-holds (write-slot-calls t) (write-slot-at t) write-slot.Post write-slot-Inv-loop write-slot-μ-loop
-write-slot-loop-holds t c = (refl, refl, refl, drawing-start _ _ _ _ _ _ _ _ _ _ _ (c .before .before .before .before .before .pre .1))
+write-slot-loop-holds t c =
+    (refl, refl, refl, drawing-start _ _ _ _ _ _ _ _ _ _ _ (c .before .before .before .pre .1 .0), behind-none _ _ _)
 
-write-slot-mul-code : (t : ℕ) → write-slot-lts.Need-mul-code (write-slot-calls t) (write-slot-at t) write-slot.Post write-slot-Inv-loop write-slot-μ-loop
-write-slot-mul-code t c = let l = c .before .loop in let s = c .before .before .before .before .before .before .before .pre .1 in let tb = s .table in let sm = tb .small in let rm = tb .room in let fw = tb .few in search needs
+write-slot-seen-at-requires : (t : ℕ) → write-slot-lts.Need-seen-at-requires (write-slot-calls t) (write-slot-at t) write-slot.Post write-slot-Inv-loop write-slot-μ-loop
+write-slot-seen-at-requires t c κs =
+    let s = c .before .before .before .before .before .before .before in
+    let a = s .args in
+    let sl = s .pre .1 .0 in
+    let ls = s .pre .1 .1 in
+    let bh = ls .behind in
+    let ins = ls .inside in
+    let tb = table-in (a .w) (a .work .now) (a .numbers .now) (sl .table, ls) in
+    let l = c .before .before .before .loop in
+    let zs = same-source (a .w) bh (l .inv .4) in
+    let zt = same-table (a .w) bh (l .inv .4) in
+    ((ready-as (sym zs) (sym zt) (fresh-ready (source (a .w) (a .work .now)) (table (a .w) (a .numbers .now)) (a .w .items) (l .i) (a .mask) (sl .table) (l .inv .3 .up-to) (sl .small) (l .inv .3 .fresh)), lies-on ls (l .inv .0)), omega arith)
 
-write-slot-add-code : (t : ℕ) → write-slot-lts.Need-add-code (write-slot-calls t) (write-slot-at t) write-slot.Post write-slot-Inv-loop write-slot-μ-loop
-write-slot-add-code t c = let l = c .before .loop in let s = c .before .before .before .before .before .before .before .pre .1 in let tb = s .table in let sm = tb .small in let rm = tb .room in let fw = tb .few in search needs
-
-write-slot-add-code-2 : (t : ℕ) → write-slot-lts.Need-add-code-2 (write-slot-calls t) (write-slot-at t) write-slot.Post write-slot-Inv-loop write-slot-μ-loop
-write-slot-add-code-2 t c = let l = c .before .loop in let s = c .before .before .before .before .before .before .before .pre .1 in let tb = s .table in let sm = tb .small in let rm = tb .room in let fw = tb .few in search needs
-
-write-slot-mul-code-2 : (t : ℕ) → write-slot-lts.Need-mul-code-2 (write-slot-calls t) (write-slot-at t) write-slot.Post write-slot-Inv-loop write-slot-μ-loop
-write-slot-mul-code-2 t c = let l = c .before .loop in let s = c .before .before .before .before .before .before .before .pre .1 in let tb = s .table in let sm = tb .small in let rm = tb .room in let fw = tb .few in search needs
-
-write-slot-shared-slice-read-code : (t : ℕ) → write-slot-lts.Need-shared-slice-read-code (write-slot-calls t) (write-slot-at t) write-slot.Post write-slot-Inv-loop write-slot-μ-loop
-write-slot-shared-slice-read-code t c = let l = c .before .before .loop in let s = c .before .before .before .before .before .before .before .before .pre .1 in let tb = s .table in let sm = tb .small in let rm = tb .room in let fw = tb .few in search needs
-
-write-slot-add-t34 : (t : ℕ) → write-slot-lts.Need-add-t34 (write-slot-calls t) (write-slot-at t) write-slot.Post write-slot-Inv-loop write-slot-μ-loop
-write-slot-add-t34 t c = let l = c .before .before .before .loop in let s = c .before .before .before .before .before .before .before .before .before .pre .1 in let tb = s .table in let sm = tb .small in let rm = tb .room in let fw = tb .few in search needs
+write-slot-add-t27 : (t : ℕ) → write-slot-lts.Need-add-t27 (write-slot-calls t) (write-slot-at t) write-slot.Post write-slot-Inv-loop write-slot-μ-loop
+write-slot-add-t27 t c =
+    let s = c .before .before .before .before .before .before .before .before .before .before in
+    let a = s .args in
+    let sl = s .pre .1 .0 in
+    let ls = s .pre .1 .1 in
+    let bh = ls .behind in
+    let ins = ls .inside in
+    let tb = table-in (a .w) (a .work .now) (a .numbers .now) (sl .table, ls) in
+    let l = c .before .before .before .before .before .before .loop in
+    let zs = same-source (a .w) bh (l .inv .4) in
+    let zt = same-table (a .w) bh (l .inv .4) in
+    let sm = tb .small in let fw = tb .few in search needs
 
 write-slot-same-length : (t : ℕ) → write-slot-lts.Need-same-length (write-slot-calls t) (write-slot-at t) write-slot.Post write-slot-Inv-loop write-slot-μ-loop
 write-slot-same-length t c = search needs
@@ -217,185 +379,224 @@ write-slot-same-length-3 t c = search needs
 
 write-slot-returns : (t : ℕ) → write-slot-lts.Need-returns (write-slot-calls t) (write-slot-at t) write-slot.Post write-slot-Inv-loop write-slot-μ-loop
 write-slot-returns t c =
-    let l = c .before .before .before .loop in
-    let a = c .before .before .before .before .before .before .before .before .before .args in
-    let s = c .before .before .before .before .before .before .before .before .before .pre .1 in
-    drawn-leave (a .text .now) (a .nums .now) (a .k) (a .from) (a .mask) _ _ _ _ _ _ _ _ (l .i) (l .before) (l .guarded) (l .inv .3) (omega arith) (c .if1 .taken)
+    let s = c .before .before .before .before .before .before .before .before .before .before in
+    let a = s .args in
+    let sl = s .pre .1 .0 in
+    let ls = s .pre .1 .1 in
+    let bh = ls .behind in
+    let ins = ls .inside in
+    let tb = table-in (a .w) (a .work .now) (a .numbers .now) (sl .table, ls) in
+    let l = c .before .before .before .before .before .before .loop in
+    let zs = same-source (a .w) bh (l .inv .4) in
+    let zt = same-table (a .w) bh (l .inv .4) in
+    let test = c .before .before .before .before .before .loop-test .taken in
+    let lk = looked-as zs zt (c .before .before .seen-at .ensures) in
+    (drawn-leave (source (a .w) (a .work .now)) (table (a .w) (a .numbers .now)) (a .w .items) (a .from) (a .mask) _ _ _ _ _ _ _ _ (l .i) (l .before) (l .guarded) (l .inv .3) (omega arith) (lk .leave (c .if1 .taken)), l .inv .4)
 
-write-slot-add-a : (t : ℕ) → write-slot-lts.Need-add-a (write-slot-calls t) (write-slot-at t) write-slot.Post write-slot-Inv-loop write-slot-μ-loop
-write-slot-add-a t c = let l = c .before .before .before .before .loop in let s = c .before .before .before .before .before .before .before .before .before .before .pre .1 in let tb = s .table in let sm = tb .small in let rm = tb .room in let fw = tb .few in search needs
+write-slot-in-work-requires : (t : ℕ) → write-slot-lts.Need-in-work-requires (write-slot-calls t) (write-slot-at t) write-slot.Post write-slot-Inv-loop write-slot-μ-loop
+write-slot-in-work-requires t c κs =
+    let s = c .before .before .before .before .before .before .before .before .before .before .before .before in
+    let a = s .args in
+    let sl = s .pre .1 .0 in
+    let ls = s .pre .1 .1 in
+    let bh = ls .behind in
+    let ins = ls .inside in
+    let tb = table-in (a .w) (a .work .now) (a .numbers .now) (sl .table, ls) in
+    let l = c .before .before .before .before .before .before .before .before .loop in
+    let zs = same-source (a .w) bh (l .inv .4) in
+    let zt = same-table (a .w) bh (l .inv .4) in
+    let test = c .before .before .before .before .before .before .before .loop-test .taken in
+    let lk = looked-as zs zt (c .before .before .before .before .seen-at .ensures) in
+    let n = source-size (a .w) (a .work .now) ls in
+    let pc = lk .text (c .if2 .taken) in
+    let q = piece-inside (sl .table) test pc in
+    let sm = pc .some in
+    let nr = ls .near in omega (arith, nr, n, q, sm)
 
-write-slot-mul-a : (t : ℕ) → write-slot-lts.Need-mul-a (write-slot-calls t) (write-slot-at t) write-slot.Post write-slot-Inv-loop write-slot-μ-loop
-write-slot-mul-a t c = let l = c .before .before .before .before .loop in let s = c .before .before .before .before .before .before .before .before .before .before .pre .1 in let tb = s .table in let sm = tb .small in let rm = tb .room in let fw = tb .few in search needs
-
-write-slot-shared-slice-read-a : (t : ℕ) → write-slot-lts.Need-shared-slice-read-a (write-slot-calls t) (write-slot-at t) write-slot.Post write-slot-Inv-loop write-slot-μ-loop
-write-slot-shared-slice-read-a t c = let l = c .before .before .before .before .before .loop in let s = c .before .before .before .before .before .before .before .before .before .before .before .pre .1 in let tb = s .table in let sm = tb .small in let rm = tb .room in let fw = tb .few in search needs
-
-write-slot-cast-a : (t : ℕ) → write-slot-lts.Need-cast-a (write-slot-calls t) (write-slot-at t) write-slot.Post write-slot-Inv-loop write-slot-μ-loop
-write-slot-cast-a t c = let l = c .before .before .before .before .before .loop in let a = c .before .before .before .before .before .before .before .before .before .before .before .args in omega (arith, c .shared-slice-known4 .given (length (a .text .now) + l .i))
-
-write-slot-add-e : (t : ℕ) → write-slot-lts.Need-add-e (write-slot-calls t) (write-slot-at t) write-slot.Post write-slot-Inv-loop write-slot-μ-loop
-write-slot-add-e t c = let l = c .before .before .before .before .before .loop in let s = c .before .before .before .before .before .before .before .before .before .before .before .pre .1 in let tb = s .table in let sm = tb .small in let rm = tb .room in let fw = tb .few in search needs
-
-write-slot-add-e-2 : (t : ℕ) → write-slot-lts.Need-add-e-2 (write-slot-calls t) (write-slot-at t) write-slot.Post write-slot-Inv-loop write-slot-μ-loop
-write-slot-add-e-2 t c = let l = c .before .before .before .before .before .loop in let s = c .before .before .before .before .before .before .before .before .before .before .before .pre .1 in let tb = s .table in let sm = tb .small in let rm = tb .room in let fw = tb .few in search needs
-
-write-slot-mul-e : (t : ℕ) → write-slot-lts.Need-mul-e (write-slot-calls t) (write-slot-at t) write-slot.Post write-slot-Inv-loop write-slot-μ-loop
-write-slot-mul-e t c = let l = c .before .before .before .before .before .loop in let s = c .before .before .before .before .before .before .before .before .before .before .before .pre .1 in let tb = s .table in let sm = tb .small in let rm = tb .room in let fw = tb .few in search needs
-
-write-slot-shared-slice-read-e : (t : ℕ) → write-slot-lts.Need-shared-slice-read-e (write-slot-calls t) (write-slot-at t) write-slot.Post write-slot-Inv-loop write-slot-μ-loop
-write-slot-shared-slice-read-e t c = let l = c .before .before .before .before .before .before .loop in let s = c .before .before .before .before .before .before .before .before .before .before .before .before .pre .1 in let tb = s .table in let sm = tb .small in let rm = tb .room in let fw = tb .few in search needs
-
-write-slot-cast-e : (t : ℕ) → write-slot-lts.Need-cast-e (write-slot-calls t) (write-slot-at t) write-slot.Post write-slot-Inv-loop write-slot-μ-loop
-write-slot-cast-e t c = let l = c .before .before .before .before .before .before .loop in let a = c .before .before .before .before .before .before .before .before .before .before .before .before .args in omega (arith, c .shared-slice-known5 .given (length (a .text .now) + (l .i + 1)))
-
-write-slot-add-touches-mark : (t : ℕ) → write-slot-lts.Need-add-touches-mark (write-slot-calls t) (write-slot-at t) write-slot.Post write-slot-Inv-loop write-slot-μ-loop
-write-slot-add-touches-mark t c = let l = c .before .before .before .before .before .before .before .loop in let s = c .before .before .before .before .before .before .before .before .before .before .before .before .before .pre .1 in let tb = s .table in let sm = tb .small in let rm = tb .room in let fw = tb .few in search needs
-
-write-slot-touches-mark-requires : (t : ℕ) → write-slot-lts.Need-touches-mark-requires (write-slot-calls t) (write-slot-at t) write-slot.Post write-slot-Inv-loop write-slot-μ-loop
-unfolding boundAt
-write-slot-touches-mark-requires t c κs =
-    let l = c .before .before .before .before .before .before .before .loop in
-    let a = c .before .before .before .before .before .before .before .before .before .before .before .before .before .args in
-    let s = c .before .before .before .before .before .before .before .before .before .before .before .before .before .pre .1 in
-    let b = bounds (a .text .now) (a .nums .now) (a .k) (l .i) (s .table) (omega arith) in
-    let lt = c .if3 .taken in (
-      fresh-ready (a .text .now) (a .nums .now) (a .k) (l .i + 1) (a .mask) (s .table) (omega arith) (s .small) (fresh-later (a .text .now) (a .nums .now) (a .k) (a .from) (a .mask) _ _ _ _ _ _ _ _ (l .i) (l .before) (l .guarded) (l .inv .3) (omega arith) (s .table) (c .before .before .before .if2 .taken)),
-      (omega arith, b .1),
-    )
+write-slot-in-work-requires-2 : (t : ℕ) → write-slot-lts.Need-in-work-requires-2 (write-slot-calls t) (write-slot-at t) write-slot.Post write-slot-Inv-loop write-slot-μ-loop
+write-slot-in-work-requires-2 t c κs =
+    let s = c .before .before .before .before .before .before .before .before .before .before .before .before .before in
+    let a = s .args in
+    let sl = s .pre .1 .0 in
+    let ls = s .pre .1 .1 in
+    let bh = ls .behind in
+    let ins = ls .inside in
+    let tb = table-in (a .w) (a .work .now) (a .numbers .now) (sl .table, ls) in
+    let l = c .before .before .before .before .before .before .before .before .before .loop in
+    let zs = same-source (a .w) bh (l .inv .4) in
+    let zt = same-table (a .w) bh (l .inv .4) in
+    let test = c .before .before .before .before .before .before .before .before .loop-test .taken in
+    let lk = looked-as zs zt (c .before .before .before .before .before .seen-at .ensures) in
+    let n = source-size (a .w) (a .work .now) ls in
+    let pc = lk .text (c .before .if2 .taken) in
+    let q = piece-inside (sl .table) test pc in
+    let sm = pc .some in
+    let nr = ls .near in omega (arith, nr, n, q)
 
 write-slot-write-piece-requires : (t : ℕ) → write-slot-lts.Need-write-piece-requires (write-slot-calls t) (write-slot-at t) write-slot.Post write-slot-Inv-loop write-slot-μ-loop
-unfolding boundAt
 write-slot-write-piece-requires t c κs =
-    let l = c .before .before .before .before .before .before .before .before .before .before .loop in
-    let a = c .before .before .before .before .before .before .before .before .before .before .before .before .before .before .before .before .args in
-    let s = c .before .before .before .before .before .before .before .before .before .before .before .before .before .before .before .before .pre .1 in
-    let b = bounds (a .text .now) (a .nums .now) (a .k) (l .i) (s .table) (omega arith) in let rm = s .table .room in (c .before .before .before .if3 .taken, (b .1, omega arith))
-
-write-slot-sub-before : (t : ℕ) → write-slot-lts.Need-sub-before (write-slot-calls t) (write-slot-at t) write-slot.Post write-slot-Inv-loop write-slot-μ-loop
-write-slot-sub-before t c = let z = c .before .before .before .before .before .before .before .before .if3 .taken in omega arith
-
-write-slot-shared-slice-read-before : (t : ℕ) → write-slot-lts.Need-shared-slice-read-before (write-slot-calls t) (write-slot-at t) write-slot.Post write-slot-Inv-loop write-slot-μ-loop
-unfolding boundAt
-write-slot-shared-slice-read-before t c =
-    let l = c .before .before .before .before .before .before .before .before .before .before .before .before .before .before .before .before .loop in
-    let a = c .before .before .before .before .before .before .before .before .before .before .before .before .before .before .before .before .before .before .before .before .before .before .args in
-    let s = c .before .before .before .before .before .before .before .before .before .before .before .before .before .before .before .before .before .before .before .before .before .before .pre .1 in
-    let b = bounds (a .text .now) (a .nums .now) (a .k) (l .i) (s .table) (omega arith) in let rm = s .table .room in let z = c .before .before .before .before .before .before .before .before .before .if3 .taken in omega arith
-
-write-slot-cast-before : (t : ℕ) → write-slot-lts.Need-cast-before (write-slot-calls t) (write-slot-at t) write-slot.Post write-slot-Inv-loop write-slot-μ-loop
-write-slot-cast-before t c = let l = c .before .before .before .before .before .before .before .before .before .before .before .before .before .before .before .before .loop in let a = c .before .before .before .before .before .before .before .before .before .before .before .before .before .before .before .before .before .before .before .before .before .before .args in omega (arith, c .shared-slice-known6 .given (getD (a .nums .now) (length (a .text .now) + (l .i + 1)) 0 - 1))
+    let s = c .before .before .before .before .before .before .before .before .before .before .before .before .before .before .before .before in
+    let a = s .args in
+    let sl = s .pre .1 .0 in
+    let ls = s .pre .1 .1 in
+    let bh = ls .behind in
+    let ins = ls .inside in
+    let tb = table-in (a .w) (a .work .now) (a .numbers .now) (sl .table, ls) in
+    let l = c .before .before .before .before .before .before .before .before .before .before .before .before .loop in
+    let zs = same-source (a .w) bh (l .inv .4) in
+    let zt = same-table (a .w) bh (l .inv .4) in
+    let test = c .before .before .before .before .before .before .before .before .before .before .before .loop-test .taken in
+    let lk = looked-as zs zt (c .before .before .before .before .before .before .before .before .seen-at .ensures) in
+    let n = source-size (a .w) (a .work .now) ls in
+    let rm = tb .room in
+    let pc = lk .text (c .before .before .before .before .if2 .taken) in
+    let q = piece-inside (sl .table) test pc in
+    let sm = pc .some in
+    let u = c .before .before .before .in-work .ensures in
+    let v = c .before .before .in-work2 .ensures in
+    ((omega (arith, u, v, sm), omega (arith, u, bh)), (omega (arith, v, q, n, ins, l .inv .0), omega (arith, v, q, n, rm, l .inv .1)))
 
 write-slot-add-i : (t : ℕ) → write-slot-lts.Need-add-i (write-slot-calls t) (write-slot-at t) write-slot.Post write-slot-Inv-loop write-slot-μ-loop
-write-slot-add-i t c = let l = c .before .before .before .before .before .before .before .before .before .before .before .before .before .before .before .before .loop in let s = c .before .before .before .before .before .before .before .before .before .before .before .before .before .before .before .before .before .before .before .before .before .before .pre .1 in let tb = s .table in let sm = tb .small in let rm = tb .room in let fw = tb .few in search needs
+write-slot-add-i t c =
+    let s = c .before .before .before .before .before .before .before .before .before .before .before .before .before .before .before .before .before .before .before .before .before in
+    let a = s .args in
+    let sl = s .pre .1 .0 in
+    let ls = s .pre .1 .1 in
+    let bh = ls .behind in
+    let ins = ls .inside in
+    let tb = table-in (a .w) (a .work .now) (a .numbers .now) (sl .table, ls) in
+    let l = c .before .before .before .before .before .before .before .before .before .before .before .before .before .before .before .before .before .loop in
+    let zs = same-source (a .w) bh (l .inv .4) in
+    let zt = same-table (a .w) bh (l .inv .4) in
+    let sm = tb .small in let fw = tb .few in search needs
 
 write-slot-loop-less : (t : ℕ) → write-slot-lts.Need-loop-less (write-slot-calls t) (write-slot-at t) write-slot.Post write-slot-Inv-loop write-slot-μ-loop
-write-slot-loop-less t c = let l = c .before .before .before .before .before .before .before .before .before .before .before .before .before .before .before .before .loop in let s = c .before .before .before .before .before .before .before .before .before .before .before .before .before .before .before .before .before .before .before .before .before .before .pre .1 in let tb = s .table in let sm = tb .small in let rm = tb .room in let fw = tb .few in search needs
+write-slot-loop-less t c =
+    let l = c .before .before .before .before .before .before .before .before .before .before .before .before .before .before .before .before .before .loop in let test = c .before .before .before .before .before .before .before .before .before .before .before .before .before .before .before .before .loop-test .taken in omega (arith, test)
 
 write-slot-loop-again : (t : ℕ) → write-slot-lts.Need-loop-again (write-slot-calls t) (write-slot-at t) write-slot.Post write-slot-Inv-loop write-slot-μ-loop
-unfolding boundAt
 write-slot-loop-again t c =
-    let l = c .before .before .before .before .before .before .before .before .before .before .before .before .before .before .before .before .loop in
-    let a = c .before .before .before .before .before .before .before .before .before .before .before .before .before .before .before .before .before .before .before .before .before .before .args in
-    let s = c .before .before .before .before .before .before .before .before .before .before .before .before .before .before .before .before .before .before .before .before .before .before .pre .1 in
-    let b = bounds (a .text .now) (a .nums .now) (a .k) (l .i) (s .table) (omega arith) in let rm = s .table .room in let kp = c .before .before .before .before .before .write-piece .kept in
-    (search needs, search needs, search needs, drawn-text (a .text .now) (a .nums .now) (a .k) (a .from) (a .mask) _ _ _ _ _ _ _ _ (l .i) (l .before) (l .guarded) (l .inv .3) (omega arith) (s .table) (c .before .before .before .before .before .before .before .before .before .before .before .before .if2 .taken) _ _ (c .before .before .before .before .before .before .before .before .touches-mark .result) _ (cells-kept _ _ _ _ (kp .1 .1 .1 .1 .1 .1 .0) (kp .1 .1 .1 .1 .1 .1 .1 .0) (let e₁ = l .inv .0 in let e₂ = l .inv .1 in let wd = s .wide in omega arith)) (cells-kept _ _ _ _ (l .inv .0) (l .inv .1) (s .wide)) (c .before .before .before .before .before .before .before .before .before .if3 .taken) (c .before .before .before .before .before .before .before .before .touches-mark .ensures) (c .before .before .before .before .before .write-piece .ensures) (last-piece (a .text .now) (a .nums .now) _ _ (c .before .before .before .before .before .before .before .before .before .if3 .taken) (b .1) (omega arith)) (omega (arith, c .shared-slice-known6 .given (getD (a .nums .now) (length (a .text .now) + (l .i + 1)) 0 - 1))))
-
-write-slot-add-i-2 : (t : ℕ) → write-slot-lts.Need-add-i-2 (write-slot-calls t) (write-slot-at t) write-slot.Post write-slot-Inv-loop write-slot-μ-loop
-write-slot-add-i-2 t c = let l = c .before .before .before .before .before .before .before .loop in let s = c .before .before .before .before .before .before .before .before .before .before .before .before .before .pre .1 in let tb = s .table in let sm = tb .small in let rm = tb .room in let fw = tb .few in search needs
+    let s = c .before .before .before .before .before .before .before .before .before .before .before .before .before .before .before .before .before .before .before .before .before in
+    let a = s .args in
+    let sl = s .pre .1 .0 in
+    let ls = s .pre .1 .1 in
+    let bh = ls .behind in
+    let ins = ls .inside in
+    let tb = table-in (a .w) (a .work .now) (a .numbers .now) (sl .table, ls) in
+    let l = c .before .before .before .before .before .before .before .before .before .before .before .before .before .before .before .before .before .loop in
+    let zs = same-source (a .w) bh (l .inv .4) in
+    let zt = same-table (a .w) bh (l .inv .4) in
+    let test = c .before .before .before .before .before .before .before .before .before .before .before .before .before .before .before .before .loop-test .taken in
+    let lk = looked-as zs zt (c .before .before .before .before .before .before .before .before .before .before .before .before .before .seen-at .ensures) in
+    let n = source-size (a .w) (a .work .now) ls in
+    let rm = tb .room in
+    let w = c .before .before .before .before .write-piece in
+    let pc = lk .text (c .before .before .before .before .before .before .before .before .before .if2 .taken) in
+    let q = piece-inside (sl .table) test pc in
+    let e₀ = l .inv .0 in
+    let e₁ = l .inv .1 in
+    let lv = area-cells (a .w .end) (l .work) (l .numbers) _ _ (omega (arith, bh, ins, e₀)) (omega (arith, bh, rm, e₁)) (w .kept .0) (w .kept .1 .0) in
+    let lv₀ = area-cells (a .w .end) (a .work .now) (a .numbers .now) (l .work) (l .numbers) (omega (arith, bh, ins)) (omega (arith, bh, rm)) e₀ e₁ in
+    (search needs, search needs, search needs, drawn-piece (source (a .w) (a .work .now)) (table (a .w) (a .numbers .now)) (a .w .items) (a .from) (a .mask) _ _ _ _ _ _ _ _ (l .i) (l .before) (l .guarded) (l .inv .3) test (sl .table) pc lv lv₀ (piece-area (a .w) _ _ _ _ _ _ _ _ zs zt (c .before .before .before .before .before .before .before .before .in-work .ensures) (c .before .before .before .before .before .before .before .in-work2 .ensures) (omega (arith, q, n)) (w .ensures)), behind-then (l .inv .4) (behind-appends (w .ensures)))
 
 write-slot-loop-less-2 : (t : ℕ) → write-slot-lts.Need-loop-less-2 (write-slot-calls t) (write-slot-at t) write-slot.Post write-slot-Inv-loop write-slot-μ-loop
-write-slot-loop-less-2 t c = let l = c .before .before .before .before .before .before .before .loop in let s = c .before .before .before .before .before .before .before .before .before .before .before .before .before .pre .1 in let tb = s .table in let sm = tb .small in let rm = tb .room in let fw = tb .few in search needs
+write-slot-loop-less-2 t c =
+    let s = c .before .before .before .before .before .before .before .before .before .before .before .before .before .before in
+    let a = s .args in
+    let sl = s .pre .1 .0 in
+    let ls = s .pre .1 .1 in
+    let bh = ls .behind in
+    let ins = ls .inside in
+    let tb = table-in (a .w) (a .work .now) (a .numbers .now) (sl .table, ls) in
+    let l = c .before .before .before .before .before .before .before .before .before .before .loop in
+    let zs = same-source (a .w) bh (l .inv .4) in
+    let zt = same-table (a .w) bh (l .inv .4) in
+    let test = c .before .before .before .before .before .before .before .before .before .loop-test .taken in
+    let lk = looked-as zs zt (c .before .before .before .before .before .before .seen-at .ensures) in
+    let f = skip-forward (lk .skip (c .if3 .taken)) in
+    omega (arith, test, f)
 
 write-slot-loop-again-2 : (t : ℕ) → write-slot-lts.Need-loop-again-2 (write-slot-calls t) (write-slot-at t) write-slot.Post write-slot-Inv-loop write-slot-μ-loop
-unfolding boundAt
 write-slot-loop-again-2 t c =
-    let l = c .before .before .before .before .before .before .before .loop in
-    let a = c .before .before .before .before .before .before .before .before .before .before .before .before .before .args in
-    let s = c .before .before .before .before .before .before .before .before .before .before .before .before .before .pre .1 in
-    (search needs, search needs, search needs, drawn-nothing (a .text .now) (a .nums .now) (a .k) (a .from) (a .mask) _ _ _ _ _ _ _ _ (l .i) (l .before) (l .guarded) (l .inv .3) (omega arith) (s .table) (c .before .before .before .if2 .taken) (c .if3 .left))
-
-write-slot-add-i-3 : (t : ℕ) → write-slot-lts.Need-add-i-3 (write-slot-calls t) (write-slot-at t) write-slot.Post write-slot-Inv-loop write-slot-μ-loop
-write-slot-add-i-3 t c = let l = c .before .before .before .before .before .loop in let s = c .before .before .before .before .before .before .before .before .before .before .before .pre .1 in let tb = s .table in let sm = tb .small in let rm = tb .room in let fw = tb .few in search needs
-
-write-slot-loop-less-3 : (t : ℕ) → write-slot-lts.Need-loop-less-3 (write-slot-calls t) (write-slot-at t) write-slot.Post write-slot-Inv-loop write-slot-μ-loop
-write-slot-loop-less-3 t c = let l = c .before .before .before .before .before .loop in let s = c .before .before .before .before .before .before .before .before .before .before .before .pre .1 in let tb = s .table in let sm = tb .small in let rm = tb .room in let fw = tb .few in search needs
-
-write-slot-loop-again-3 : (t : ℕ) → write-slot-lts.Need-loop-again-3 (write-slot-calls t) (write-slot-at t) write-slot.Post write-slot-Inv-loop write-slot-μ-loop
-write-slot-loop-again-3 t c =
-    let l = c .before .before .before .before .before .loop in
-    let a = c .before .before .before .before .before .before .before .before .before .before .before .args in
-    let s = c .before .before .before .before .before .before .before .before .before .before .before .pre .1 in
-    (search needs, search needs, search needs, drawn-gone (a .text .now) (a .nums .now) (a .k) (a .from) (a .mask) _ _ _ _ _ _ _ _ (l .i) (l .before) (l .guarded) (l .inv .3) (omega arith) (c .before .if2 .left) (c .before .before .if1 .left) (c .if4 .taken))
-
-write-slot-add-content-of : (t : ℕ) → write-slot-lts.Need-add-content-of (write-slot-calls t) (write-slot-at t) write-slot.Post write-slot-Inv-loop write-slot-μ-loop
-write-slot-add-content-of t c = let l = c .before .before .before .before .before .loop in let s = c .before .before .before .before .before .before .before .before .before .before .before .pre .1 in let tb = s .table in let sm = tb .small in let rm = tb .room in let fw = tb .few in search needs
-
-write-slot-sub-content-of : (t : ℕ) → write-slot-lts.Need-sub-content-of (write-slot-calls t) (write-slot-at t) write-slot.Post write-slot-Inv-loop write-slot-μ-loop
-write-slot-sub-content-of t c =
-    let l = c .before .before .before .before .before .loop in
-    let a = c .before .before .before .before .before .before .before .before .before .before .before .args in
-    let s = c .before .before .before .before .before .before .before .before .before .before .before .pre .1 in
-    let d = mark-deep (a .text .now) (a .nums .now) (a .k) (l .i) _ (l .i) (here-start (a .text .now) (a .nums .now) (a .k) (l .i) _ (fresh-ready (a .text .now) (a .nums .now) (a .k) (l .i) (a .mask) (s .table) (omega arith) (s .small) (l .inv .3 .fresh))) (omega arith) (c .if4 .left) in omega arith
-
-write-slot-content-of-requires : (t : ℕ) → write-slot-lts.Need-content-of-requires (write-slot-calls t) (write-slot-at t) write-slot.Post write-slot-Inv-loop write-slot-μ-loop
-write-slot-content-of-requires t c κs =
-    let l = c .before .before .before .before .before .loop in
-    let a = c .before .before .before .before .before .before .before .before .before .before .before .args in
-    let s = c .before .before .before .before .before .before .before .before .before .before .before .pre .1 in
-    mark-ready (a .text .now) (a .nums .now) (a .k) (l .i) _ (l .i) (here-start (a .text .now) (a .nums .now) (a .k) (l .i) _ (fresh-ready (a .text .now) (a .nums .now) (a .k) (l .i) (a .mask) (s .table) (omega arith) (s .small) (l .inv .3 .fresh))) (omega arith) (c .if4 .left)
+    let s = c .before .before .before .before .before .before .before .before .before .before .before .before .before .before in
+    let a = s .args in
+    let sl = s .pre .1 .0 in
+    let ls = s .pre .1 .1 in
+    let bh = ls .behind in
+    let ins = ls .inside in
+    let tb = table-in (a .w) (a .work .now) (a .numbers .now) (sl .table, ls) in
+    let l = c .before .before .before .before .before .before .before .before .before .before .loop in
+    let zs = same-source (a .w) bh (l .inv .4) in
+    let zt = same-table (a .w) bh (l .inv .4) in
+    let test = c .before .before .before .before .before .before .before .before .before .loop-test .taken in
+    let lk = looked-as zs zt (c .before .before .before .before .before .before .seen-at .ensures) in
+    (search needs, search needs, search needs, drawn-skip (source (a .w) (a .work .now)) (table (a .w) (a .numbers .now)) (a .w .items) (a .from) (a .mask) _ _ _ _ _ _ _ _ (l .i) (l .before) (l .guarded) (l .inv .3) test (sl .table) _ (lk .skip (c .if3 .taken)), l .inv .4)
 
 write-slot-write-mark-requires : (t : ℕ) → write-slot-lts.Need-write-mark-requires (write-slot-calls t) (write-slot-at t) write-slot.Post write-slot-Inv-loop write-slot-μ-loop
 write-slot-write-mark-requires t c κs =
-    let l = c .before .before .before .before .before .before .before .before .before .before .loop in
-    let a = c .before .before .before .before .before .before .before .before .before .before .before .before .before .before .before .before .args in
-    let s = c .before .before .before .before .before .before .before .before .before .before .before .before .before .before .before .before .pre .1 in
-    let sh = s .short in let wd = s .wide in (
+    let s = c .before .before .before .before .before .before .before .before .before .before .before .before .before .before .before .before .before in
+    let a = s .args in
+    let sl = s .pre .1 .0 in
+    let ls = s .pre .1 .1 in
+    let bh = ls .behind in
+    let ins = ls .inside in
+    let tb = table-in (a .w) (a .work .now) (a .numbers .now) (sl .table, ls) in
+    let l = c .before .before .before .before .before .before .before .before .before .before .before .before .before .loop in
+    let zs = same-source (a .w) bh (l .inv .4) in
+    let zt = same-table (a .w) bh (l .inv .4) in
+    let test = c .before .before .before .before .before .before .before .before .before .before .before .before .loop-test .taken in
+    let lk = looked-as zs zt (c .before .before .before .before .before .before .before .before .before .seen-at .ensures) in
+    let rm = tb .room in
+    let n₁ = c .before .before .before .before .before .before .before .if1 .left in
+    let n₂ = c .before .before .before .before .before .if2 .left in
+    let n₃ = c .before .before .before .if3 .left in
+    let mk = lk .mark (omega arith) in
+    let x = area-same (a .w .end) (a .work .now) (l .work) (omega (arith, bh, ins)) (l .inv .0) in
+    let y = area-same (a .w .end) (a .numbers .now) (l .numbers) (omega (arith, bh, rm)) (l .inv .1) in
+    let sh = sl .short in
+    let wd = sl .wide in (
       omega arith,
-      record {
-        slot = record { table = s .table; up-to = omega arith; small = s .small; fresh = l .inv .3 .fresh; short = omega arith; wide = omega arith; few = l .inv .3 .few };
-        inside = omega arith;
-        mark = c .before .before .before .before .before .if4 .left;
-        some = c .before .before .before .before .content-of .ensures .some (c .before .before .before .if5 .taken);
-        small = l .inv .3 .small;
-      },
+      (
+        mark-ready-as (sym zs) (sym zt) (record {
+          slot = record { table = sl .table; up-to = l .inv .3 .up-to; small = sl .small; fresh = l .inv .3 .fresh; short = omega (arith, x, sh); wide = omega (arith, x, y, wd); few = l .inv .3 .few };
+          inside = test;
+          mark = mk .0;
+          some = mk .1;
+          small = l .inv .3 .small;
+        }),
+        lies-on ls (l .inv .0),
+      ),
     )
 
-write-slot-loop-less-4 : (t : ℕ) → write-slot-lts.Need-loop-less-4 (write-slot-calls t) (write-slot-at t) write-slot.Post write-slot-Inv-loop write-slot-μ-loop
-write-slot-loop-less-4 t c =
-    let l = c .before .before .before .before .before .before .before .before .before .before .before .before .before .before .before .before .before .loop in
-    let a = c .before .before .before .before .before .before .before .before .before .before .before .before .before .before .before .before .before .before .before .before .before .before .before .args in
-    let s = c .before .before .before .before .before .before .before .before .before .before .before .before .before .before .before .before .before .before .before .before .before .before .before .pre .1 in
-    let f = c .before .before .before .before .before .before .write-mark .ensures .forward in omega arith
+write-slot-loop-less-3 : (t : ℕ) → write-slot-lts.Need-loop-less-3 (write-slot-calls t) (write-slot-at t) write-slot.Post write-slot-Inv-loop write-slot-μ-loop
+write-slot-loop-less-3 t c =
+    let l = c .before .before .before .before .before .before .before .before .before .before .before .before .before .before .before .before .before .before .before .before .before .loop in let f = c .before .before .before .before .before .before .before .write-mark .ensures .0 .forward in omega arith
 
-write-slot-loop-again-4 : (t : ℕ) → write-slot-lts.Need-loop-again-4 (write-slot-calls t) (write-slot-at t) write-slot.Post write-slot-Inv-loop write-slot-μ-loop
-write-slot-loop-again-4 t c =
-    let l = c .before .before .before .before .before .before .before .before .before .before .before .before .before .before .before .before .before .loop in
-    let a = c .before .before .before .before .before .before .before .before .before .before .before .before .before .before .before .before .before .before .before .before .before .before .before .args in
-    let s = c .before .before .before .before .before .before .before .before .before .before .before .before .before .before .before .before .before .before .before .before .before .before .before .pre .1 in
-    let kp = c .before .before .before .before .before .before .write-mark .kept in
-    (search needs, search needs, search needs, drawn-mark (a .text .now) (a .nums .now) (a .k) (a .from) (a .mask) _ _ _ _ _ _ _ _ (l .i) (l .before) (l .guarded) (l .inv .3) (omega arith) (c .before .before .before .before .before .before .before .before .before .before .before .before .if4 .left) _ _ _ _ _ _ _ (cells-kept _ _ _ _ (kp .1 .1 .1 .1 .1 .1 .0) (kp .1 .1 .1 .1 .1 .1 .1 .0) (let e₁ = l .inv .0 in let e₂ = l .inv .1 in let wd = s .wide in omega arith)) (cells-kept _ _ _ _ (l .inv .0) (l .inv .1) (s .wide)) (kp .1 .1 .1 .1 .1 .1 .1 .1 .1 .0) (c .before .before .before .before .before .before .before .before .before .before .before .content-of .ensures .some (c .before .before .before .before .before .before .before .before .before .before .if5 .taken)) (spans-few _ _) (c .before .before .before .before .before .before .write-mark .ensures))
-
-write-slot-sub-i : (t : ℕ) → write-slot-lts.Need-sub-i (write-slot-calls t) (write-slot-at t) write-slot.Post write-slot-Inv-loop write-slot-μ-loop
-write-slot-sub-i t c = let z = c .if5 .left in omega arith
-
-write-slot-loop-less-5 : (t : ℕ) → write-slot-lts.Need-loop-less-5 (write-slot-calls t) (write-slot-at t) write-slot.Post write-slot-Inv-loop write-slot-μ-loop
-write-slot-loop-less-5 t c =
-    let l = c .before .before .before .before .before .before .before .loop in
-    let a = c .before .before .before .before .before .before .before .before .before .before .before .before .before .args in
-    let s = c .before .before .before .before .before .before .before .before .before .before .before .before .before .pre .1 in
-    let z = c .if5 .left in
-    let e = c .before .content-of .ensures .empty (c .before .content-of .result - 1) (omega arith) in
-    let f = e .forward in
-    omega arith
-
-write-slot-loop-again-5 : (t : ℕ) → write-slot-lts.Need-loop-again-5 (write-slot-calls t) (write-slot-at t) write-slot.Post write-slot-Inv-loop write-slot-μ-loop
-write-slot-loop-again-5 t c =
-    let l = c .before .before .before .before .before .before .before .loop in
-    let a = c .before .before .before .before .before .before .before .before .before .before .before .before .before .args in
-    let s = c .before .before .before .before .before .before .before .before .before .before .before .before .before .pre .1 in
-    let z = c .if5 .left in
-    (search needs, search needs, search needs, drawn-empty (a .text .now) (a .nums .now) (a .k) (a .from) (a .mask) _ _ _ _ _ _ _ _ (l .i) (l .before) (l .guarded) (l .inv .3) (omega arith) (c .before .before .if4 .left) _ (c .before .content-of .ensures .empty (c .before .content-of .result - 1) (omega arith)))
+write-slot-loop-again-3 : (t : ℕ) → write-slot-lts.Need-loop-again-3 (write-slot-calls t) (write-slot-at t) write-slot.Post write-slot-Inv-loop write-slot-μ-loop
+write-slot-loop-again-3 t c =
+    let s = c .before .before .before .before .before .before .before .before .before .before .before .before .before .before .before .before .before .before .before .before .before .before .before .before .before in
+    let a = s .args in
+    let sl = s .pre .1 .0 in
+    let ls = s .pre .1 .1 in
+    let bh = ls .behind in
+    let ins = ls .inside in
+    let tb = table-in (a .w) (a .work .now) (a .numbers .now) (sl .table, ls) in
+    let l = c .before .before .before .before .before .before .before .before .before .before .before .before .before .before .before .before .before .before .before .before .before .loop in
+    let zs = same-source (a .w) bh (l .inv .4) in
+    let zt = same-table (a .w) bh (l .inv .4) in
+    let test = c .before .before .before .before .before .before .before .before .before .before .before .before .before .before .before .before .before .before .before .before .loop-test .taken in
+    let lk = looked-as zs zt (c .before .before .before .before .before .before .before .before .before .before .before .before .before .before .before .before .before .seen-at .ensures) in
+    let rm = tb .room in
+    let n₁ = c .before .before .before .before .before .before .before .before .before .before .before .before .before .before .before .if1 .left in
+    let n₂ = c .before .before .before .before .before .before .before .before .before .before .before .before .before .if2 .left in
+    let n₃ = c .before .before .before .before .before .before .before .before .before .before .before .if3 .left in
+    let mk = lk .mark (omega arith) in
+    let w = c .before .before .before .before .before .before .before .write-mark in
+    let e₀ = l .inv .0 in
+    let e₁ = l .inv .1 in
+    let lv = area-cells (a .w .end) (l .work) (l .numbers) _ _ (omega (arith, bh, ins, e₀)) (omega (arith, bh, rm, e₁)) (w .kept .0) (w .kept .1 .0) in
+    let lv₀ = area-cells (a .w .end) (a .work .now) (a .numbers .now) (l .work) (l .numbers) (omega (arith, bh, ins)) (omega (arith, bh, rm)) e₀ e₁ in
+    (search needs, search needs, search needs, drawn-mark (source (a .w) (a .work .now)) (table (a .w) (a .numbers .now)) (a .w .items) (a .from) (a .mask) _ _ _ _ _ _ _ _ (l .i) (l .before) (l .guarded) (l .inv .3) test (mk .0) _ _ _ _ _ _ _ lv lv₀ (w .kept .1 .1 .1 .1 .1 .1 .1 .0) (mk .1) (spans-few _ _) (mark-written-as zs zt (w .ensures .0)), behind-then (l .inv .4) (w .ensures .1))
 
 write-slot-same-length-4 : (t : ℕ) → write-slot-lts.Need-same-length-4 (write-slot-calls t) (write-slot-at t) write-slot.Post write-slot-Inv-loop write-slot-μ-loop
 write-slot-same-length-4 t c = search needs
@@ -408,26 +609,27 @@ write-slot-same-length-6 t c = search needs
 
 write-slot-returns-2 : (t : ℕ) → write-slot-lts.Need-returns-2 (write-slot-calls t) (write-slot-at t) write-slot.Post write-slot-Inv-loop write-slot-μ-loop
 write-slot-returns-2 t c =
+    let s = c .before .before .before .before .before in
+    let a = s .args in
+    let sl = s .pre .1 .0 in
+    let ls = s .pre .1 .1 in
+    let bh = ls .behind in
+    let ins = ls .inside in
+    let tb = table-in (a .w) (a .work .now) (a .numbers .now) (sl .table, ls) in
     let l = c .before .loop in
-    let a = c .before .before .before .before .before .before .before .args in
-    let s = c .before .before .before .before .before .before .before .pre .1 in
-    drawn-end (a .text .now) (a .nums .now) (a .k) (a .from) (a .mask) _ _ _ _ _ _ _ _ (l .i) (l .before) (l .guarded) (l .inv .3) (omega arith)
+    let zs = same-source (a .w) bh (l .inv .4) in
+    let zt = same-table (a .w) bh (l .inv .4) in
+    (drawn-end (source (a .w) (a .work .now)) (table (a .w) (a .numbers .now)) (a .w .items) (a .from) (a .mask) _ _ _ _ _ _ _ _ (l .i) (l .before) (l .guarded) (l .inv .3) (omega arith), l .inv .4)
 
 pub +write-mark+write-slot-spec : {M : Type 1} → statement M
-+write-mark+write-slot-spec =
-    close μ-write-mark μ-write-slot (λ t. write-mark-lts.spec
-    (write-mark-calls t)
++write-mark+write-slot-spec = close μ-write-mark μ-write-slot (λ t. write-mark-lts.spec (write-mark-calls t)
     (write-mark-at t)
     write-mark.Post
-    (write-mark-mul-kind t)
-    (write-mark-add-kind t)
-    (write-mark-add-kind-2 t)
-    (write-mark-mul-kind-2 t)
-    (write-mark-shared-slice-read-kind t)
+    (write-mark-kind-at-requires t)
     (write-mark-delimiter-of-requires t)
-    (write-mark-put-sign-requires t)
-    (write-mark-add-is-one-text t)
-    (write-mark-is-one-text-requires t)
+    (write-mark-put-sign-in-requires t)
+    (write-mark-add-is-text-at t)
+    (write-mark-is-text-at-requires t)
     (write-mark-add-write-text t)
     (write-mark-add-write-text-2 t)
     (write-mark-write-text-requires t)
@@ -445,8 +647,7 @@ pub +write-mark+write-slot-spec : {M : Type 1} → statement M
     (write-mark-same-length-5 t)
     (write-mark-same-length-6 t)
     (write-mark-returns-2 t))
-    λ t. write-slot-lts.spec
-    (write-slot-calls t)
+    λ t. write-slot-lts.spec (write-slot-calls t)
     (write-slot-at t)
     write-slot.Post
     write-slot-Inv-loop
@@ -454,49 +655,23 @@ pub +write-mark+write-slot-spec : {M : Type 1} → statement M
     (write-slot-cast-depth t)
     (write-slot-sub-depth t)
     (write-slot-loop-holds t)
-    (write-slot-mul-code t)
-    (write-slot-add-code t)
-    (write-slot-add-code-2 t)
-    (write-slot-mul-code-2 t)
-    (write-slot-shared-slice-read-code t)
-    (write-slot-add-t34 t)
+    (write-slot-seen-at-requires t)
+    (write-slot-add-t27 t)
     (write-slot-same-length t)
     (write-slot-same-length-2 t)
     (write-slot-same-length-3 t)
     (write-slot-returns t)
-    (write-slot-add-a t)
-    (write-slot-mul-a t)
-    (write-slot-shared-slice-read-a t)
-    (write-slot-cast-a t)
-    (write-slot-add-e t)
-    (write-slot-add-e-2 t)
-    (write-slot-mul-e t)
-    (write-slot-shared-slice-read-e t)
-    (write-slot-cast-e t)
-    (write-slot-add-touches-mark t)
-    (write-slot-touches-mark-requires t)
+    (write-slot-in-work-requires t)
+    (write-slot-in-work-requires-2 t)
     (write-slot-write-piece-requires t)
-    (write-slot-sub-before t)
-    (write-slot-shared-slice-read-before t)
-    (write-slot-cast-before t)
     (write-slot-add-i t)
     (write-slot-loop-less t)
     (write-slot-loop-again t)
-    (write-slot-add-i-2 t)
     (write-slot-loop-less-2 t)
     (write-slot-loop-again-2 t)
-    (write-slot-add-i-3 t)
+    (write-slot-write-mark-requires t)
     (write-slot-loop-less-3 t)
     (write-slot-loop-again-3 t)
-    (write-slot-add-content-of t)
-    (write-slot-sub-content-of t)
-    (write-slot-content-of-requires t)
-    (write-slot-write-mark-requires t)
-    (write-slot-loop-less-4 t)
-    (write-slot-loop-again-4 t)
-    (write-slot-sub-i t)
-    (write-slot-loop-less-5 t)
-    (write-slot-loop-again-5 t)
     (write-slot-same-length-4 t)
     (write-slot-same-length-5 t)
     (write-slot-same-length-6 t)

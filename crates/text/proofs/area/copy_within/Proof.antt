@@ -7,7 +7,7 @@ use native.Mathlib.Nat.{le-antisymm}
 use Rattle.text.specs.Writes.{AppendsIn}
 use Rattle.text.specs.Cells.{cells, part}
 use Rattle.text.proofs.Writing.{part-none}
-use Rattle.text.proofs.Areas.{appendsIn-none, appendsIn-set, appendsIn-pasted, part-over, within-turn}
+use Rattle.text.proofs.Areas.{appendsIn-none, appendsIn-set, appendsIn-pasted, part-over, apart-turn}
 use Rattle.text.proofs.area.copy_within.Statement.{statement}
 use Rattle.text.proofs.area.copy_within.Tie as tie
 
@@ -35,7 +35,7 @@ fits-blocks-requires : tie.Need-fits-blocks-requires Inv-loop μ-loop
 fits-blocks-requires c κs = search needs
 
 within-requires : tie.Need-within-requires Inv-loop μ-loop
-within-requires c κs = let f = c .before .before .before .fits-blocks .ensures (c .before .before .if2 .taken) in ((omega arith, omega (arith, f .0)), (omega (arith, f .1 .1), omega (arith, f .1 .1)))
+within-requires c κs = let f = c .before .before .before .fits-blocks .ensures (c .before .before .if2 .taken) in ((omega arith, (omega (arith, f .0), omega (arith, f .0))), ((omega (arith, f .1 .1), omega (arith, f .1 .1)), λ lt. absurd (omega (arith, f .0, lt))))
 
 add-t21 : tie.Need-add-t21 Inv-loop μ-loop
 add-t21 c = let f = c .before .before .before .before .before .before .before .before .before .fits-blocks .ensures (c .before .before .before .before .before .before .before .before .if2 .taken) in omega (arith, f .1 .1)
@@ -86,7 +86,7 @@ loop-less c = search needs
 loop-again : tie.Need-loop-again Inv-loop μ-loop
 loop-again c =
     let l = c .before .before .before .loop in
-    (search needs, search needs, omega arith, search needs, search needs, search needs, within-turn _ _ _ _ _ (l .i) _ _ (l .inv .6) (appendsIn-set _ _ _ (omega arith) (omega arith) (l .to) _ _ (omega arith)) (omega arith) (omega arith) (omega arith) (omega arith) (omega arith) (omega arith) (omega arith))
+    (search needs, search needs, omega arith, search needs, search needs, search needs, apart-turn _ _ _ _ _ (l .i) _ _ (l .inv .6) (appendsIn-set _ _ _ (omega arith) (omega arith) (l .to) _ _ (omega arith)) (omega arith) (λ lt. absurd (omega (arith, lt))) (omega arith) (omega arith))
 
 same-length-3 : tie.Need-same-length-3 Inv-loop μ-loop
 same-length-3 c = search needs
