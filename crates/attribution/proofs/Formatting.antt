@@ -81,7 +81,7 @@ module _ (s : List ℕ) {work₁ work₂ : List ℕ} {end past : ℕ} (source : 
   past-is = j .end ∙ ap (λ (t : List ℕ). end + length t) source-texts
 
   abbrev words : Words
-  words = record { from = 0; to = length s; joined = end; past = past }
+  words = record { from = record { 0 = 0 }; to = record { 0 = length s }; joined = record { 0 = end }; past = record { 0 = past } }
 
   said-is : said words work₂ ≡ s
   said-is = ap (λ (k : ℕ). take k work₂) (sub-zero (length s)) ∙ in-front

@@ -35,7 +35,7 @@ apart-in i j h k f lt = let z = f (omega arith) in omega arith
 
 module _ {s ns s' ns' : List ℕ} {at at' end : ℕ} {t : List Cell} {w : Words} (p : AppendsIn s ns end at s' ns' at' t) (h : Spoken s at end w) where
   pub said-on : said w s' ≡ said w s
-  said-on = apart-cut (w .from) (w .to) (h .apart) p
+  said-on = apart-cut (w .from .0) (w .to .0) (h .apart) p
 
   pub spoken-on : length s' ≡ length s → Spoken s' at' end w
   spoken-on size = record {
@@ -46,55 +46,55 @@ module _ {s ns s' ns' : List ℕ} {at at' end : ℕ} {t : List Cell} {w : Words}
     joined-order = h .joined-order;
     joined-inside = omega (arith, h .joined-inside, size);
     joined-apart = apart-on (h .joined-apart) (p .appends .grows);
-    joins = apart-cut (w .joined) (w .past) (h .joined-apart) p ∙ h .joins ∙ ap nameTexts (sym said-on);
+    joins = apart-cut (w .joined .0) (w .past .0) (h .joined-apart) p ∙ h .joins ∙ ap nameTexts (sym said-on);
   }
 
 -- ---- a part of what is said
 
 module _ (s : List ℕ) (w : Words) {at end : ℕ} (h : Spoken s at end w) where
-  pub said-length : length (said w s) ≡ w .to - w .from
-  said-length = cut-length (w .from) (w .to) s (h .inside)
+  pub said-length : length (said w s) ≡ w .to .0 - w .from .0
+  said-length = cut-length (w .from .0) (w .to .0) s (h .inside)
 
-  pub field-inside : (k : Kind) (f : Field) → FieldAt (said w s) k f → f .from + f .size ≤ w .to - w .from
+  pub field-inside : (k : Kind) (f : Field) → FieldAt (said w s) k f → f .from + f .size ≤ w .to .0 - w .from .0
   field-inside k f q = let l = said-length in omega (arith, l, q .inside)
 
-  module _ (f z : ℕ) (le : f + z ≤ w .to - w .from) where
-    pub inner-end : w .from + f + z ≤ length s
+  module _ (f z : ℕ) (le : f + z ≤ w .to .0 - w .from .0) where
+    pub inner-end : w .from .0 + f + z ≤ length s
     inner-end = omega (arith, h .order, h .inside, le)
 
-    pub inner-cut : cut (w .from + f) (w .from + f + z) s ≡ take (f + z - f) (drop f (said w s))
-    inner-cut = cut-cut (w .from) (w .to) f z s le
+    pub inner-cut : cut (w .from .0 + f) (w .from .0 + f + z) s ≡ take (f + z - f) (drop f (said w s))
+    inner-cut = cut-cut (w .from .0) (w .to .0) f z s le
 
-    pub inner-apart : Apart (w .from + f) (w .from + f + z) at end
-    inner-apart = apart-in (w .from + f) (w .from + f + z) (omega arith) (omega (arith, h .order, le)) (h .apart)
+    pub inner-apart : Apart (w .from .0 + f) (w .from .0 + f + z) at end
+    inner-apart = apart-in (w .from .0 + f) (w .from .0 + f + z) (omega arith) (omega (arith, h .order, le)) (h .apart)
 
 -- ---- the name
 
-module _ (s : List ℕ) (w : Words) (from size kept : ℕ) {x : List ℕ} (e : x ≡ named (said w s) (cut (w .joined) (w .past) s) from size kept) where
-  pub name-joined : size ≡ 0 → w .joined ≤ w .past → w .past ≤ length s → kept ≤ w .past - w .joined → NameAt s w from size kept (w .joined) (w .joined + length x)
+module _ (s : List ℕ) (w : Words) (from size kept : ℕ) {x : List ℕ} (e : x ≡ named (said w s) (cut (w .joined .0) (w .past .0) s) from size kept) where
+  pub name-joined : size ≡ 0 → w .joined .0 ≤ w .past .0 → w .past .0 ≤ length s → kept ≤ w .past .0 - w .joined .0 → NameAt s w from size kept (w .joined .0) (w .joined .0 + length x)
   unfolding named
   name-joined z h k le =
-      let j : ℕ = w .joined in
-      let l = cut-length j (w .past) s k in
-      let v : x ≡ take kept (cut j (w .past) s) = e ∙ rw (eq-eqb size 0 z) in
-      let n : length x ≡ kept = ap length v ∙ length-take-le kept (cut j (w .past) s) (omega (arith, l, le)) in
+      let j : ℕ = w .joined .0 in
+      let l = cut-length j (w .past .0) s k in
+      let v : x ≡ take kept (cut j (w .past .0) s) = e ∙ rw (eq-eqb size 0 z) in
+      let n : length x ≡ kept = ap length v ∙ length-take-le kept (cut j (w .past .0) s) (omega (arith, l, le)) in
       record {
-        words = ap (λ (m : ℕ). take (j + m - j) (drop j s)) n ∙ ap (λ (m : ℕ). take m (drop j s)) (add-sub-cancel-left j kept) ∙ sym (take-take kept (w .past - j) (drop j s) le) ∙ sym v ∙ e;
+        words = ap (λ (m : ℕ). take (j + m - j) (drop j s)) n ∙ ap (λ (m : ℕ). take m (drop j s)) (add-sub-cancel-left j kept) ∙ sym (take-take kept (w .past .0 - j) (drop j s) le) ∙ sym v ∙ e;
         order = omega arith;
         inside = omega (arith, n, le, h, k);
         apart = λ at end f g. apart-in j (j + length x) (omega arith) (omega (arith, n, le, h)) g;
       }
 
-  pub name-field : (size ≡ 0 → ⊥) → w .from ≤ w .to → w .to ≤ length s → from + size ≤ w .to - w .from → NameAt s w from size kept (w .from + from) (w .from + from + length x)
+  pub name-field : (size ≡ 0 → ⊥) → w .from .0 ≤ w .to .0 → w .to .0 ≤ length s → from + size ≤ w .to .0 - w .from .0 → NameAt s w from size kept (w .from .0 + from) (w .from .0 + from + length x)
   unfolding named
   name-field z h k le =
-      let a : ℕ = w .from in
-      let l = cut-length a (w .to) s k in
+      let a : ℕ = w .from .0 in
+      let l = cut-length a (w .to .0) s k in
       let d = length-drop from (said w s) in
       let v : x ≡ take size (drop from (said w s)) = e ∙ rw (ne-eqb size 0 z) in
       let n : length x ≡ size = ap length v ∙ length-take-le size (drop from (said w s)) (omega (arith, l, d, le)) in
       record {
-        words = ap (λ (m : ℕ). cut (a + from) (a + from + m) s) n ∙ cut-cut a (w .to) from size s le ∙ ap (λ (m : ℕ). take m (drop from (said w s))) (add-sub-cancel-left from size) ∙ sym v ∙ e;
+        words = ap (λ (m : ℕ). cut (a + from) (a + from + m) s) n ∙ cut-cut a (w .to .0) from size s le ∙ ap (λ (m : ℕ). take m (drop from (said w s))) (add-sub-cancel-left from size) ∙ sym v ∙ e;
         order = omega arith;
         inside = omega (arith, n, le, h, k);
         apart = λ at end f g. apart-in (a + from) (a + from + length x) (omega arith) (omega (arith, n, le, h)) f;
@@ -113,7 +113,7 @@ joined-there {v} {v'} {end} {j} {t} p he fit =
 
 -- the attribution stands before the area from `at` up to `end`, the joined texts behind it
 pub spoken-there : {v : List ℕ} {at end : ℕ} (a b j : ℕ) → a ≤ b → b ≤ at → at ≤ end → end ≤ j → j ≤ length v → b ≤ 1073741824
-    → cut end j v ≡ nameTexts (cut a b v) → Spoken v at end (record { from = a; to = b; joined = end; past = j })
+    → cut end j v ≡ nameTexts (cut a b v) → Spoken v at end (record { from = record { 0 = a }; to = record { 0 = b }; joined = record { 0 = end }; past = record { 0 = j } })
 spoken-there a b j h k l m n small e = record {
   order = h;
   inside = omega arith;

@@ -16,24 +16,24 @@ use Rattle.attribution.specs.declared.caption.Words.{Words}
 
 -- the attribution's bytes
 abbrev pub said : Words → List ℕ → List ℕ
-said w s = cut (w .from) (w .to) s
+said w s = cut (w .from .0) (w .to .0) s
 
 -- the date and the id of a caption
 abbrev pub dateAndId : List Part → List ℕ
 dateAndId ps = spaced (within (ascii "(") (date ps) (ascii ")")) (within (ascii "#") (id ps) [])
 
 pub record Spoken (s : List ℕ) (at end : ℕ) (w : Words) : Type 0 where
-  pub order : w .from ≤ w .to
-  pub inside : w .to ≤ length s
-  pub small : w .to ≤ w .from + 1073741824
-  pub apart : Apart (w .from) (w .to) at end
-  pub joined-order : w .joined ≤ w .past
-  pub joined-inside : w .past ≤ length s
-  pub joined-apart : Apart (w .joined) (w .past) at end
-  pub joins : cut (w .joined) (w .past) s ≡ nameTexts (said w s)
+  pub order : w .from .0 ≤ w .to .0
+  pub inside : w .to .0 ≤ length s
+  pub small : w .to .0 ≤ w .from .0 + 1073741824
+  pub apart : Apart (w .from .0) (w .to .0) at end
+  pub joined-order : w .joined .0 ≤ w .past .0
+  pub joined-inside : w .past .0 ≤ length s
+  pub joined-apart : Apart (w .joined .0) (w .past .0) at end
+  pub joins : cut (w .joined .0) (w .past .0) s ≡ nameTexts (said w s)
 
 pub record NameAt (s : List ℕ) (w : Words) (from size kept i j : ℕ) : Type 0 where
-  pub words : cut i j s ≡ named (said w s) (cut (w .joined) (w .past) s) from size kept
+  pub words : cut i j s ≡ named (said w s) (cut (w .joined .0) (w .past .0) s) from size kept
   pub order : i ≤ j
   pub inside : j ≤ length s
-  pub apart : (at end : ℕ) → Apart (w .from) (w .to) at end → Apart (w .joined) (w .past) at end → Apart i j at end
+  pub apart : (at end : ℕ) → Apart (w .from .0) (w .to .0) at end → Apart (w .joined .0) (w .past .0) at end → Apart i j at end

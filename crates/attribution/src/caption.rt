@@ -33,16 +33,16 @@ ghost use Rattle.attribution.specs.Spoken.{said, dateAndId, Spoken, Name
 
 // Where an attribution stands, and its joined texts.
 pub struct Words {
-    pub from: usize,
-    pub to: usize,
-    pub joined: usize,
-    pub past: usize,
+    pub from: WorkAt,
+    pub to: WorkAt,
+    pub joined: WorkAt,
+    pub past: WorkAt,
 }
 
 // Where a name stands.
 struct NamePlace {
-    from: usize,
-    to: usize,
+    from: WorkAt,
+    to: WorkAt,
 }
 
 // The name: where there is a name field its value, a part of the attribution; else what is kept of the joined texts.
@@ -65,21 +65,24 @@ fn name<'a>(
 
 // Where the name stands: as long as the part that `name` hands out, which can't be held while the slice is written.
 fn name_at(work: &[u8], w: Words, from: usize, size: usize, kept: usize) -> NamePlace
-    requires { ⌜ ((w .from ≤ w .to) × ((w .to ≤ length (now work)) × ((w .joined ≤ w .past) × (w .past ≤ length (now work))))) × ((from + size ≤ w .to - w .from) × (size ≡ 0 → kept ≤ w .past - w .joined)) ⌝ }
-    ensures { λ r. ⌜ NameAt (now (work .entry)) w from size kept (r .from) (r .to) ⌝ }
+    requires { ⌜ ((w .from .0 ≤ w .to .0) × ((w .to .0 ≤ length (now work)) × ((w .joined .0 ≤ w .past .0) × (w .past .0 ≤ length (now work))))) × ((from + size ≤ w .to .0 - w .from .0) × (size ≡ 0 → kept ≤ w .past .0 - w .joined .0)) ⌝ }
+    ensures { λ r. ⌜ NameAt (now (work .entry)) w from size kept (r .from .0) (r .to .0) ⌝ }
 {
-    let a = w.from;
-    let b = w.to;
-    let j = w.joined;
-    let k = w.past;
+    let a = w.from.0;
+    let b = w.to.0;
+    let j = w.joined.0;
+    let k = w.past.0;
     let words = name(&work[a..b], &work[j..k], from, size, kept);
     let n = words.len();
     if size == 0 {
-        return NamePlace { from: j, to: j + n };
+        return NamePlace {
+            from: WorkAt(j),
+            to: WorkAt(j + n),
+        };
     }
     NamePlace {
-        from: a + from,
-        to: a + from + n,
+        from: WorkAt(a + from),
+        to: WorkAt(a + from + n),
     }
 }
 
@@ -204,9 +207,9 @@ fn put_date(
     requires { ⌜ (Spoken (now work) (at .0) end w × (FieldAt (said w (now work)) Date date × (FieldAt (said w (now work)) Time time × (day ≡ isDay (parts 0 (said w (now work))))))) × ((end ≤ length (now work)) × (end ≤ length (now numbers))) ⌝ }
     ensures { λ r. ⌜ AppendsIn (now (work .entry)) (now (numbers .entry)) end (at .0) (now (work .exit)) (now (numbers .exit)) (r .0) (written (within (ascii "(") (dateOf (parts 0 (said w (now (work .entry))))) (ascii ")"))) ⌝ }
 {
-    let df = w.from + date.from;
+    let df = w.from.0 + date.from;
     let de = df + date.size;
-    let tf = w.from + time.from;
+    let tf = w.from.0 + time.from;
     let te = tf + time.size;
     if day {
         return put_day(work, numbers, tf, te, end, at);
@@ -233,13 +236,13 @@ fn put_id(
     end: usize,
     at: WorkAt,
 ) -> WorkAt
-    requires { ⌜ (Spoken (now work) (at .0) end w × (from + size ≤ w .to - w .from)) × ((end ≤ length (now work)) × (end ≤ length (now numbers))) ⌝ }
+    requires { ⌜ (Spoken (now work) (at .0) end w × (from + size ≤ w .to .0 - w .from .0)) × ((end ≤ length (now work)) × (end ≤ length (now numbers))) ⌝ }
     ensures { λ r. ⌜ AppendsIn (now (work .entry)) (now (numbers .entry)) end (at .0) (now (work .exit)) (now (numbers .exit)) (r .0) (written (within (ascii "#") (bytes (said w (now (work .entry))) from size) [])) ⌝ }
 {
     if size == 0 {
         return at;
     }
-    let i = w.from + from;
+    let i = w.from.0 + from;
     let a = put_sign_in(work, numbers, end, at, b'#');
     put_within(work, numbers, i, i + size, end, a)
 }
@@ -298,8 +301,8 @@ fn put_pieces(
     let f = fields.name;
     let more = has_more(is_dated(fields.date, fields.time), ends.size);
     let words = name_at(&work[..], w, f.from, f.size, ends.kept);
-    let i = words.from;
-    let j = words.to;
+    let i = words.from.0;
+    let j = words.to.0;
     let n = j - i;
     let a = put_within(work, numbers, i, j, end, at);
     let b = put_gap(0 < n, more, work, numbers, end, a);
@@ -311,8 +314,8 @@ pub fn put_caption(work: &mut [u8], numbers: &mut [u32], w: Words, end: usize, a
     requires { ⌜ Spoken (now work) (at .0) end w × ((end ≤ length (now work)) × (end ≤ length (now numbers))) ⌝ }
     ensures { λ r. ⌜ AppendsIn (now (work .entry)) (now (numbers .entry)) end (at .0) (now (work .exit)) (now (numbers .exit)) (r .0) (written (caption (said w (now (work .entry))))) ⌝ }
 {
-    let a = w.from;
-    let b = w.to;
+    let a = w.from.0;
+    let b = w.to.0;
     let memory = &work[..];
     let facts = read_facts(&memory[a..b]);
     let fields = facts.fields;

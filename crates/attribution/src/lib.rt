@@ -58,10 +58,10 @@ fn set_caption(text: &[u8], m: usize, work: &mut [u8], numbers: &mut [u32]) -> W
         return WorkAt(past);
     }
     let words = Words {
-        from: 0,
-        to: n,
-        joined: end,
-        past,
+        from: WorkAt(0),
+        to: WorkAt(n),
+        joined: WorkAt(end),
+        past: WorkAt(past),
     };
     put_caption(work, numbers, words, end, WorkAt(n))
 }

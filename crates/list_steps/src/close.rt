@@ -4,6 +4,7 @@ use list_blocks::item::Kind;
 use list_blocks::item::put_feeds;
 use text::WorkAt;
 use text::area::copy_back;
+use text::bounds::FULL;
 use text::trim::is_feed;
 ghost use mathlib.Core.Path.{_≡_};
 ghost use mathlib.Core.Bool.{cond, not};
@@ -12,9 +13,6 @@ ghost use lib.ListN.{length};
 ghost use lib.Dec.{eqb, leb};
 ghost use Rattle.text.specs.Writes.{AppendsIn};
 ghost use Rattle.list_steps.specs.Standing.{feedAt, feedsBefore, closingAt, Framed, closeInner, Spaced, Starts, ReadyIn, StepsIn};
-
-// The place past every slice's end.
-const FULL: usize = 0xffff_ffff_ffff_ffff;
 
 // The areas of the pair of slices: all open contents stand from `base` up to `end`; behind them, in as much room as they have, the block of a list that
 // is closed is built; and the table of open lists stands in the numbers alone, from `table` on.

@@ -1,6 +1,6 @@
-// The items of a text of n bytes in work numbers, behind the codes of its cells: the bounds of item j's bytes at n + j and n + j + 1, its code at 2n + 2 + j,
-// and from 3n + 3 on a stack. Codes: 0 text, 1 a tag that vanishes, 2 the end of a mark's slot, 4 to 7 the start of a mark (by kind),
-// 8 to 11 an opener of which it is not known yet whether it is closed.
+// The items of a text of n bytes in work numbers, behind the codes of its cells: the bounds of item j's bytes at n + j and n + j + 1, its code at
+// 2n + 2 + j, and from 3n + 3 on a stack. Codes: 0 text, 1 a tag that vanishes, 2 the end of a mark's slot, 4 to 7 the start of a mark (by
+// kind), 8 to 11 an opener of which it is not known yet whether it is closed.
 use mark_tags::tags::tag_at;
 use text::PostAt;
 use text::scan::next_byte;

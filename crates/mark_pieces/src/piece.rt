@@ -2,6 +2,7 @@
 use text::WorkAt;
 use text::area::copy_back;
 use text::area::put_sign_in;
+use text::bounds::FULL;
 use text::cell::RULE_SIGN;
 ghost use mathlib.Core.Path.{_≡_};
 ghost use mathlib.Core.Bool.{true, _&&_};
@@ -12,9 +13,6 @@ ghost use Rattle.text.specs.Writes.{AppendsIn};
 ghost use Rattle.mark_tags.specs.Marks.{touching, backslash, pieceText};
 ghost use Rattle.mark_tags.specs.Flat.{evenRun, Inserts};
 ghost use Rattle.mark_pieces.specs.Behind.{escapedPart};
-
-// The place past every slice's end.
-const FULL: usize = 0xffff_ffff_ffff_ffff;
 
 // Whether an even number of backslashes stands at the end of the bytes from a up to e.
 pub fn is_even(s: &[u8], a: WorkAt, e: WorkAt) -> bool

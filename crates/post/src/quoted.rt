@@ -33,10 +33,10 @@ fn write_quotes(
     let count = losses.losses;
     let table = WorkAt(first + 5 * count);
     let areas = Areas {
-        text: k,
-        base: k,
-        end: k + m,
-        top: k + m + m,
+        text: WorkAt(k),
+        base: WorkAt(k),
+        end: WorkAt(k + m),
+        top: WorkAt(k + m + m),
     };
     let passed = quote_pass(work, &mut numbers[..first], areas);
     match passed {

@@ -449,88 +449,88 @@ module _ (caption : List ℕ → List ℕ) where
 module _ (m : Areas) (bs₀ ns₀ starts tags : List ℕ) (r : Reached) where
   -- of all that may be open at the start
   pub record ClosingAll (bs ns : List ℕ) (to d seen : ℕ) : Type 0 where
-    pub each : (P now : List Cell) (qs : List Quote) → length P ≡ m .base → m .base + r .seen ≤ m .end → Stands (m .text) P (take (m .end) (cells bs₀ ns₀)) (r .to .0) starts tags (r .depth) (record { now = now; opened = qs })
-        → Closing caption (m .text) (m .end) P now qs (r .seen) (take (m .end) (cells bs ns)) to starts tags d seen
+    pub each : (P now : List Cell) (qs : List Quote) → length P ≡ m .base .0 → m .base .0 + r .seen ≤ m .end .0 → Stands (m .text .0) P (take (m .end .0) (cells bs₀ ns₀)) (r .to .0) starts tags (r .depth) (record { now = now; opened = qs })
+        → Closing caption (m .text .0) (m .end .0) P now qs (r .seen) (take (m .end .0) (cells bs ns)) to starts tags d seen
 
   pub all-start : ClosingAll bs₀ ns₀ (r .to .0) (r .depth) (r .seen)
-  all-start = record { each = λ P now qs eP f st. closing-start caption (m .text) (m .end) P now qs (omega (arith, eP, f)) st }
+  all-start = record { each = λ P now qs eP f st. closing-start caption (m .text .0) (m .end .0) P now qs (omega (arith, eP, f)) st }
 
-  module _ {bs ns : List ℕ} {to d seen : ℕ} (w : ClosingAll bs ns to d seen) (hb : m .end ≤ length bs) (hn : m .end ≤ length ns) (fit : to ≤ m .end) where
-    pub all-end : d ≡ 0 → (n : ℕ) → n ≡ max seen (to - m .base) → ClosesAll m bs₀ ns₀ starts tags r bs ns (Done (record { 0 = to }) n)
+  module _ {bs ns : List ℕ} {to d seen : ℕ} (w : ClosingAll bs ns to d seen) (hb : m .end .0 ≤ length bs) (hn : m .end .0 ≤ length ns) (fit : to ≤ m .end .0) where
+    pub all-end : d ≡ 0 → (n : ℕ) → n ≡ max seen (to - m .base .0) → ClosesAll m bs₀ ns₀ starts tags r bs ns (Done (record { 0 = to }) n)
     all-end z n en P now qs eP f st =
-        subst (λ (k : ℕ). Leaves k (m .end) (take (m .end) (cells bs ns)) (finish caption now qs) (max (r .seen) (finishNeed caption now qs)) (Done (record { 0 = to }) n)) eP
-        (closing-end caption (m .text) (m .end) P (w .each P now qs eP f st) (area-length bs ns (m .end) hb hn) fit z n (rw eP en))
+        subst (λ (k : ℕ). Leaves k (m .end .0) (take (m .end .0) (cells bs ns)) (finish caption now qs) (max (r .seen) (finishNeed caption now qs)) (Done (record { 0 = to }) n)) eP
+        (closing-end caption (m .text .0) (m .end .0) P (w .each P now qs eP f st) (area-length bs ns (m .end .0) hb hn) fit z n (rw eP en))
 
-    module _ {bs' ns' : List ℕ} {to' : ℕ} (pos : 0 < d) (cl : ClosesLast caption (m .text) (m .base) (m .end) bs ns to starts tags d bs' ns' to') (lb : length bs' ≡ length bs) (ln : length ns' ≡ length ns) where
-      pub all-on : (n : ℕ) → n ≡ max seen (to - m .base) → ClosingAll bs' ns' to' (d - 1) n
+    module _ {bs' ns' : List ℕ} {to' : ℕ} (pos : 0 < d) (cl : ClosesLast caption (m .text .0) (m .base .0) (m .end .0) bs ns to starts tags d bs' ns' to') (lb : length bs' ≡ length bs) (ln : length ns' ≡ length ns) where
+      pub all-on : (n : ℕ) → n ≡ max seen (to - m .base .0) → ClosingAll bs' ns' to' (d - 1) n
       all-on n en = record {
         each = λ P now qs eP f st.
-            rw (en, ← eP) (closing-on caption (m .text) (m .end) P (w .each P now qs eP f st) (area-length bs ns (m .end) hb hn) fit (λ z. omega arith) (λ now' q qs' h. cl .each P now' q qs' eP h)
-            (area-length bs' ns' (m .end) (omega arith) (omega arith)));
+            rw (en, ← eP) (closing-on caption (m .text .0) (m .end .0) P (w .each P now qs eP f st) (area-length bs ns (m .end .0) hb hn) fit (λ z. omega arith) (λ now' q qs' h. cl .each P now' q qs' eP h)
+            (area-length bs' ns' (m .end .0) (omega arith) (omega arith)));
       }
 
-      pub all-full : m .end < to' → ClosesAll m bs₀ ns₀ starts tags r bs' ns' Full
+      pub all-full : m .end .0 < to' → ClosesAll m bs₀ ns₀ starts tags r bs' ns' Full
       all-full lt P now qs eP f st =
-          subst (λ (k : ℕ). m .end < k + max (r .seen) (finishNeed caption now qs)) eP
-          (closing-full caption (m .text) (m .end) P (w .each P now qs eP f st) (area-length bs ns (m .end) hb hn) fit (λ z. omega arith) (λ now' q qs' h. cl .each P now' q qs' eP h)
-          (area-length bs' ns' (m .end) (omega arith) (omega arith)) lt)
+          subst (λ (k : ℕ). m .end .0 < k + max (r .seen) (finishNeed caption now qs)) eP
+          (closing-full caption (m .text .0) (m .end .0) P (w .each P now qs eP f st) (area-length bs ns (m .end .0) hb hn) fit (λ z. omega arith) (λ now' q qs' h. cl .each P now' q qs' eP h)
+          (area-length bs' ns' (m .end .0) (omega arith) (omega arith)) lt)
 
-module _ (m : Areas) (bs₀ ns₀ : List ℕ) (he : m .text ≤ m .base) (hp : m .base ≤ m .end) (hb₀ : m .end ≤ length bs₀) (hn₀ : m .end ≤ length ns₀) where
+module _ (m : Areas) (bs₀ ns₀ : List ℕ) (he : m .text .0 ≤ m .base .0) (hp : m .base .0 ≤ m .end .0) (hb₀ : m .end .0 ≤ length bs₀) (hn₀ : m .end .0 ≤ length ns₀) where
   abbrev P₀ : List Cell
-  P₀ = take (m .base) (cells bs₀ ns₀)
+  P₀ = take (m .base .0) (cells bs₀ ns₀)
 
-  before-length : length P₀ ≡ m .base
-  before-length = length-take-le (m .base) (cells bs₀ ns₀) (cells-le bs₀ ns₀ (m .base) (omega arith) (omega arith))
+  before-length : length P₀ ≡ m .base .0
+  before-length = length-take-le (m .base .0) (cells bs₀ ns₀) (cells-le bs₀ ns₀ (m .base .0) (omega arith) (omega arith))
 
   -- the run, in slices
   pub record RunningIn (bs ns : List ℕ) (to : ℕ) (starts tags : List ℕ) (d i seen : ℕ) : Type 0 where
-    pub runs : Running caption (m .text) (m .end) P₀ (take (m .end) (cells bs ns)) to starts tags d i seen
+    pub runs : Running caption (m .text .0) (m .end .0) P₀ (take (m .end .0) (cells bs ns)) to starts tags d i seen
 
-  pub run-start : (starts tags : List ℕ) → tooDeep (take (m .text) (cells bs₀ ns₀)) ≡ false → RunningIn bs₀ ns₀ (m .base) starts tags 0 0 0
+  pub run-start : (starts tags : List ℕ) → tooDeep (take (m .text .0) (cells bs₀ ns₀)) ≡ false → RunningIn bs₀ ns₀ (m .base .0) starts tags 0 0 0
   run-start starts tags z =
       let l = before-length in
-      let a = area-length bs₀ ns₀ (m .end) hb₀ hn₀ in
+      let a = area-length bs₀ ns₀ (m .end .0) hb₀ hn₀ in
       record {
-        runs = subst (λ (k : ℕ). Running caption (m .text) (m .end) P₀ (take (m .end) (cells bs₀ ns₀)) k starts tags 0 0 0) l
-            (running-start caption (m .text) (m .end) P₀ (take (m .end) (cells bs₀ ns₀)) starts tags (rw l (take-take (m .base) (m .end) (cells bs₀ ns₀) hp)) (omega arith) (rw (take-take (m .text) (m .base) (cells bs₀ ns₀) he) z) (omega arith));
+        runs = subst (λ (k : ℕ). Running caption (m .text .0) (m .end .0) P₀ (take (m .end .0) (cells bs₀ ns₀)) k starts tags 0 0 0) l
+            (running-start caption (m .text .0) (m .end .0) P₀ (take (m .end .0) (cells bs₀ ns₀)) starts tags (rw l (take-take (m .base .0) (m .end .0) (cells bs₀ ns₀) hp)) (omega arith) (rw (take-take (m .text .0) (m .base .0) (cells bs₀ ns₀) he) z) (omega arith));
       }
 
-  module _ {bs ns : List ℕ} {to : ℕ} {starts tags : List ℕ} {d i seen : ℕ} (w : RunningIn bs ns to starts tags d i seen) (hb : m .end ≤ length bs) (hn : m .end ≤ length ns) (fit : to ≤ m .end) where
-    pub run-room : (openerSize (drop i (take (m .text) bs)) ≡ 0 → ⊥) → d < deepMost
+  module _ {bs ns : List ℕ} {to : ℕ} {starts tags : List ℕ} {d i seen : ℕ} (w : RunningIn bs ns to starts tags d i seen) (hb : m .end .0 ≤ length bs) (hn : m .end .0 ≤ length ns) (fit : to ≤ m .end .0) where
+    pub run-room : (openerSize (drop i (take (m .text .0) bs)) ≡ 0 → ⊥) → d < deepMost
     run-room n =
         let l = before-length in
-        running-room caption (m .text) (m .end) P₀ (w .runs) (area-length bs ns (m .end) hb hn) fit (take (m .text) bs)
-        (text-bytes caption (m .text) (m .end) P₀ bs ns to starts tags d (w .runs .state) (w .runs .stands) (omega arith) (omega arith) hb hn fit) refl n
+        running-room caption (m .text .0) (m .end .0) P₀ (w .runs) (area-length bs ns (m .end .0) hb hn) fit (take (m .text .0) bs)
+        (text-bytes caption (m .text .0) (m .end .0) P₀ bs ns to starts tags d (w .runs .state) (w .runs .stands) (omega arith) (omega arith) hb hn fit) refl n
 
-    pub run-end : m .text ≤ i → Finishing caption (m .text) (m .end) P₀ (take (m .end) (cells bs ns)) to starts tags d seen
+    pub run-end : m .text .0 ≤ i → Finishing caption (m .text .0) (m .end .0) P₀ (take (m .end .0) (cells bs ns)) to starts tags d seen
     run-end le =
         let l = before-length in
-        let k : length (take (m .text) P₀) ≡ m .text = length-take-le (m .text) P₀ (omega arith) in
-        running-end caption (m .text) (m .end) P₀ (w .runs) (area-length bs ns (m .end) hb hn) fit (omega arith)
+        let k : length (take (m .text .0) P₀) ≡ m .text .0 = length-take-le (m .text .0) P₀ (omega arith) in
+        running-end caption (m .text .0) (m .end .0) P₀ (w .runs) (area-length bs ns (m .end .0) hb hn) fit (omega arith)
 
-    module _ {bs' ns' : List ℕ} {to' : ℕ} {starts' tags' : List ℕ} {d' i' : ℕ} (t : TakesOne caption (m .text) (m .base) (m .end) bs ns to starts tags d i bs' ns' to' starts' tags' d' i')
+    module _ {bs' ns' : List ℕ} {to' : ℕ} {starts' tags' : List ℕ} {d' i' : ℕ} (t : TakesOne caption (m .text .0) (m .base .0) (m .end .0) bs ns to starts tags d i bs' ns' to' starts' tags' d' i')
         (lb : length bs' ≡ length bs) (ln : length ns' ≡ length ns) where
-      pub run-on : to' ≤ m .end → (n : ℕ) → n ≡ max seen (to - m .base) → RunningIn bs' ns' to' starts' tags' d' i' n
+      pub run-on : to' ≤ m .end .0 → (n : ℕ) → n ≡ max seen (to - m .base .0) → RunningIn bs' ns' to' starts' tags' d' i' n
       run-on le n en =
           let q : n ≡ max seen (to - length P₀) = en ∙ ap (λ (k : ℕ). max seen (to - k)) (sym before-length) in
           record {
-            runs = rw q (running-on caption (m .text) (m .end) P₀ (w .runs) (area-length bs ns (m .end) hb hn) fit (t .each P₀ (w .runs .state) before-length (w .runs .stands))
-                (area-length bs' ns' (m .end) (omega arith) (omega arith)) le);
+            runs = rw q (running-on caption (m .text .0) (m .end .0) P₀ (w .runs) (area-length bs ns (m .end .0) hb hn) fit (t .each P₀ (w .runs .state) before-length (w .runs .stands))
+                (area-length bs' ns' (m .end .0) (omega arith) (omega arith)) le);
           }
 
-      pub run-full : m .end < to' → m .end < m .base + quotesNeed caption (take (m .text) (cells bs₀ ns₀))
+      pub run-full : m .end .0 < to' → m .end .0 < m .base .0 + quotesNeed caption (take (m .text .0) (cells bs₀ ns₀))
       run-full lt =
-          let f = running-full caption (m .text) (m .end) P₀ (w .runs) (area-length bs ns (m .end) hb hn) fit
-          (t .each P₀ (w .runs .state) before-length (w .runs .stands)) (area-length bs' ns' (m .end) (omega arith) (omega arith)) lt in
-          rw (before-length, take-take (m .text) (m .base) (cells bs₀ ns₀) he) at f
+          let f = running-full caption (m .text .0) (m .end .0) P₀ (w .runs) (area-length bs ns (m .end .0) hb hn) fit
+          (t .each P₀ (w .runs .state) before-length (w .runs .stands)) (area-length bs' ns' (m .end .0) (omega arith) (omega arith)) lt in
+          rw (before-length, take-take (m .text .0) (m .base .0) (cells bs₀ ns₀) he) at f
 
-  text-is : take (m .text) P₀ ≡ take (m .text) (cells bs₀ ns₀)
-  text-is = take-take (m .text) (m .base) (cells bs₀ ns₀) he
+  text-is : take (m .text .0) P₀ ≡ take (m .text .0) (cells bs₀ ns₀)
+  text-is = take-take (m .text .0) (m .base .0) (cells bs₀ ns₀) he
 
-  module _ {v : List Cell} {starts tags : List ℕ} {to d seen : ℕ} (f : Finishing caption (m .text) (m .end) P₀ v to starts tags d seen) where
-    pub seen-short : m .base + seen ≤ m .end
+  module _ {v : List Cell} {starts tags : List ℕ} {to d seen : ℕ} (f : Finishing caption (m .text .0) (m .end .0) P₀ v to starts tags d seen) where
+    pub seen-short : m .base .0 + seen ≤ m .end .0
     seen-short = let l = before-length in let s = f .short in omega (arith, l, s)
 
-    pub pass-done : (v' : List Cell) (a : Passed) → Leaves (m .base) (m .end) v' (finish caption (f .now) (f .opened)) (max seen (finishNeed caption (f .now) (f .opened))) a
-        → Leaves (m .base) (m .end) v' (quotes caption (take (m .text) (cells bs₀ ns₀))) (quotesNeed caption (take (m .text) (cells bs₀ ns₀))) a
+    pub pass-done : (v' : List Cell) (a : Passed) → Leaves (m .base .0) (m .end .0) v' (finish caption (f .now) (f .opened)) (max seen (finishNeed caption (f .now) (f .opened))) a
+        → Leaves (m .base .0) (m .end .0) v' (quotes caption (take (m .text .0) (cells bs₀ ns₀))) (quotesNeed caption (take (m .text .0) (cells bs₀ ns₀))) a
     pass-done v' a l = rw (← text-is, f .same, f .need) l

@@ -37,10 +37,10 @@ LentWithin base end top work numbers =
     ((top + (top - end) ≤ length work) × (top ≤ length numbers)) × ((end ≤ base + (top - end)) × ((end ≤ top) × (4 * top ≤ numberMost)))
 
 abbrev pub Lent : Areas → (work numbers : List ℕ) → Type 0
-Lent m work numbers = ((m .text ≤ m .base) × (m .base ≤ m .end)) × LentWithin (m .base) (m .end) (m .top) work numbers
+Lent m work numbers = ((m .text .0 ≤ m .base .0) × (m .base .0 ≤ m .end .0)) × LentWithin (m .base .0) (m .end .0) (m .top .0) work numbers
 
 abbrev pub Content : Areas → (begin to : ℕ) → Type 0
-Content m begin to = (m .base ≤ begin) × ((begin ≤ to) × (to ≤ m .end))
+Content m begin to = (m .base .0 ≤ begin) × ((begin ≤ to) × (to ≤ m .end .0))
 
 -- the block of the quote whose opener stands at `tag`
 abbrev pub blockOf : (e : ℕ) (bs : List ℕ) (tag : ℕ) → List Cell → List Cell
@@ -53,7 +53,7 @@ pub record BuiltIn (bs ns : List ℕ) (end top : ℕ) (bs' ns' : List ℕ) (r : 
   pub numbers-kept : take end ns' ≡ take end ns
 
 abbrev pub Built : (m : Areas) (bs ns : List ℕ) (tag begin to : ℕ) (bs' ns' : List ℕ) (r : ℕ) → Type 0
-Built m bs ns tag begin to bs' ns' r = BuiltIn bs ns (m .end) (m .top) bs' ns' r (blockOf (m .text) bs tag (part begin to (cells bs ns)))
+Built m bs ns tag begin to bs' ns' r = BuiltIn bs ns (m .end .0) (m .top .0) bs' ns' r (blockOf (m .text .0) bs tag (part begin to (cells bs ns)))
 
 -- s: the text's bytes
 unfoldable pub Stood : (s : List ℕ) (base : ℕ) (starts tags : List ℕ) → List Quote → Type 0
@@ -78,7 +78,7 @@ pub record ClosesIn (bs ns : List ℕ) (end start to : ℕ) (bs' ns' : List ℕ)
   pub closes : Closes (take end (cells bs ns)) start to (take end (cells bs' ns')) to' block
 
 abbrev pub ClosesQuote : (m : Areas) (bs ns : List ℕ) (tag start to : ℕ) (bs' ns' : List ℕ) (to' : ℕ) → Type 0
-ClosesQuote m bs ns tag start to bs' ns' to' = ClosesIn bs ns (m .end) start to bs' ns' to' (blockOf (m .text) bs tag)
+ClosesQuote m bs ns tag start to bs' ns' to' = ClosesIn bs ns (m .end .0) start to bs' ns' to' (blockOf (m .text .0) bs tag)
 
 unfoldable pub texts : List Cell → List Token → List Token
 texts [] r = r
@@ -108,25 +108,25 @@ pub record ClosesLast (caption : List ℕ → List ℕ) (e base end : ℕ) (bs n
       → Stands e P (take end (cells bs' ns')) to' starts tags (depth - 1) (record { now = close caption q now; opened = qs })
 
 pub record ClosesInner (m : Areas) (bs ns starts tags : List ℕ) (depth to : ℕ) (bs' ns' : List ℕ) (to' : ℕ) : Type 0 where
-  pub place : m .base ≤ to'
-  pub text : take (m .text) bs' ≡ take (m .text) bs
-  pub closes : ClosesLast caption (m .text) (m .base) (m .end) bs ns to starts tags depth bs' ns' to'
+  pub place : m .base .0 ≤ to'
+  pub text : take (m .text .0) bs' ≡ take (m .text .0) bs
+  pub closes : ClosesLast caption (m .text .0) (m .base .0) (m .end .0) bs ns to starts tags depth bs' ns' to'
 
 pub record Ready (m : Areas) (bs ns starts tags : List ℕ) (o : Open) : Type 0 where
   pub lent : Lent m bs ns
-  pub at : o .at .0 < m .text
-  pub to : (m .base ≤ o .to .0) × (o .to .0 ≤ m .end)
+  pub at : o .at .0 < m .text .0
+  pub to : (m .base .0 ≤ o .to .0) × (o .to .0 ≤ m .end .0)
   pub tables : (length starts ≡ deepMost) × ((length tags ≡ deepMost) × (o .depth ≤ deepMost))
-  pub bracket : NextBracket (take (m .text) bs) (o .at .0) (o .bracket .0)
-  pub room : (openerSize (drop (o .at .0) (take (m .text) bs)) ≡ 0 → ⊥) → o .depth < deepMost
+  pub bracket : NextBracket (take (m .text .0) bs) (o .at .0) (o .bracket .0)
+  pub room : (openerSize (drop (o .at .0) (take (m .text .0) bs)) ≡ 0 → ⊥) → o .depth < deepMost
 
 pub record TakesToken (m : Areas) (bs ns starts tags : List ℕ) (o : Open) (bs' ns' starts' tags' : List ℕ) (o' : Open) : Type 0 where
-  pub on : (o .at .0 < o' .at .0) × (o' .at .0 ≤ m .text)
-  pub place : m .base ≤ o' .to .0
+  pub on : (o .at .0 < o' .at .0) × (o' .at .0 ≤ m .text .0)
+  pub place : m .base .0 ≤ o' .to .0
   pub depth : o' .depth ≤ deepMost
-  pub text : take (m .text) bs' ≡ take (m .text) bs
-  pub bracket : NextBracket (take (m .text) bs') (o' .at .0) (o' .bracket .0)
-  pub takes : TakesOne caption (m .text) (m .base) (m .end) bs ns (o .to .0) starts tags (o .depth) (o .at .0) bs' ns' (o' .to .0) starts' tags' (o' .depth) (o' .at .0)
+  pub text : take (m .text .0) bs' ≡ take (m .text .0) bs
+  pub bracket : NextBracket (take (m .text .0) bs') (o' .at .0) (o' .bracket .0)
+  pub takes : TakesOne caption (m .text .0) (m .base .0) (m .end .0) bs ns (o .to .0) starts tags (o .depth) (o .at .0) bs' ns' (o' .to .0) starts' tags' (o' .depth) (o' .at .0)
 
 -- v holds the text `result` from `base` on, in the room up to `end`
 abbrev pub Leaves : (base end : ℕ) (v result : List Cell) (need : ℕ) → Passed → Type 0
@@ -136,8 +136,8 @@ Leaves base end v result need Full = end < base + need
 -- whatever is open at r
 abbrev pub ClosesAll : (m : Areas) (bs ns starts tags : List ℕ) (r : Reached) (bs' ns' : List ℕ) → Passed → Type 0
 ClosesAll m bs ns starts tags r bs' ns' answer =
-    (P now : List Cell) (qs : List Quote) → length P ≡ m .base → m .base + r .seen ≤ m .end → Stands (m .text) P (take (m .end) (cells bs ns)) (r .to .0) starts tags (r .depth) (record { now = now; opened = qs })
-    → Leaves (m .base) (m .end) (take (m .end) (cells bs' ns')) (finish caption now qs) (max (r .seen) (finishNeed caption now qs)) answer
+    (P now : List Cell) (qs : List Quote) → length P ≡ m .base .0 → m .base .0 + r .seen ≤ m .end .0 → Stands (m .text .0) P (take (m .end .0) (cells bs ns)) (r .to .0) starts tags (r .depth) (record { now = now; opened = qs })
+    → Leaves (m .base .0) (m .end .0) (take (m .end .0) (cells bs' ns')) (finish caption now qs) (max (r .seen) (finishNeed caption now qs)) answer
 
 -- what is open is left to be closed
 pub record Finishing (caption : List ℕ → List ℕ) (e end : ℕ) (P v : List Cell) (to : ℕ) (starts tags : List ℕ) (depth seen : ℕ) : Type 0 where
@@ -149,7 +149,7 @@ pub record Finishing (caption : List ℕ → List ℕ) (e end : ℕ) (P v : List
   pub short : length P + seen ≤ end
 
 pub record RunsAll (m : Areas) (bs ns bs' ns' starts tags : List ℕ) (r : Reached) : Type 0 where
-  pub place : m .base ≤ r .to .0
+  pub place : m .base .0 ≤ r .to .0
   pub depth : r .depth ≤ deepMost
-  pub done : r .to .0 ≤ m .end → Finishing caption (m .text) (m .end) (take (m .base) (cells bs ns)) (take (m .end) (cells bs' ns')) (r .to .0) starts tags (r .depth) (r .seen)
-  pub full : m .end < r .to .0 → m .end < m .base + quotesNeed caption (take (m .text) (cells bs ns))
+  pub done : r .to .0 ≤ m .end .0 → Finishing caption (m .text .0) (m .end .0) (take (m .base .0) (cells bs ns)) (take (m .end .0) (cells bs' ns')) (r .to .0) starts tags (r .depth) (r .seen)
+  pub full : m .end .0 < r .to .0 → m .end .0 < m .base .0 + quotesNeed caption (take (m .text .0) (cells bs ns))

@@ -7,6 +7,7 @@ use quote_tags::tag::opener_size;
 use text::PostAt;
 use text::WorkAt;
 use text::area::copy_back;
+use text::bounds::FULL;
 use text::scan::next_bracket;
 ghost use mathlib.Core.Path.{_≡_};
 ghost use Prim.Native.Nat.{_-_, _≤_, _<_};
@@ -17,16 +18,13 @@ ghost use Rattle.quote_tags.specs.Tags.{attributionOf};
 ghost use Rattle.quote_blocks.specs.Quotes.{quoteBlock};
 ghost use Rattle.quote_steps.specs.Passes.{Lent, Content, Built, ClosesQuote, ClosesInner};
 
-// The place past every slice's end.
-const FULL: usize = 0xffff_ffff_ffff_ffff;
-
 // Where the pass stands in work memory: its text before `text`, the open contents one behind another from `base` up to `end`, the block of a quote that
 // is closed from there up to `top`, and behind that, in the bytes alone, the joined texts of an attribution.
 pub struct Areas {
-    pub text: usize,
-    pub base: usize,
-    pub end: usize,
-    pub top: usize,
+    pub text: WorkAt,
+    pub base: WorkAt,
+    pub end: WorkAt,
+    pub top: WorkAt,
 }
 
 // Where an attribution stands in the text.
@@ -62,12 +60,12 @@ fn build_block(
     begin: WorkAt,
     to: WorkAt,
 ) -> WorkAt
-    requires { ⌜ Lent m (now work) (now numbers) × ((tag .0 ≤ m .text) × Content m (begin .0) (to .0)) ⌝ }
+    requires { ⌜ Lent m (now work) (now numbers) × ((tag .0 ≤ m .text .0) × Content m (begin .0) (to .0)) ⌝ }
     ensures { λ r. ⌜ Built m (now (work .entry)) (now (numbers .entry)) (tag .0) (begin .0) (to .0) (now (work .exit)) (now (numbers .exit)) (r .0) ⌝ }
 {
-    let size = m.text;
-    let end = m.end;
-    let top = m.top;
+    let size = m.text.0;
+    let end = m.end.0;
+    let top = m.top.0;
     let words = attribution_of(&work[..size], tag);
     let from = words.from;
     let last = words.to;
@@ -78,10 +76,10 @@ fn build_block(
         return WorkAt(FULL);
     }
     let spoken = Words {
-        from: a,
-        to: b,
-        joined: top,
-        past: j,
+        from: WorkAt(a),
+        to: WorkAt(b),
+        joined: WorkAt(top),
+        past: WorkAt(j),
     };
     quote_block(work, numbers, begin, to, spoken, top, WorkAt(end))
 }
@@ -95,26 +93,26 @@ fn close_quote(
     begin: WorkAt,
     to: WorkAt,
 ) -> WorkAt
-    requires { ⌜ Lent m (now work) (now numbers) × ((tag .0 ≤ m .text) × Content m (begin .0) (to .0)) ⌝ }
+    requires { ⌜ Lent m (now work) (now numbers) × ((tag .0 ≤ m .text .0) × Content m (begin .0) (to .0)) ⌝ }
     ensures { λ r. ⌜ (begin .0 ≤ r .0) × ClosesQuote m (now (work .entry)) (now (numbers .entry)) (tag .0) (begin .0) (to .0) (now (work .exit)) (now (numbers .exit)) (r .0) ⌝ }
 {
-    let end = m.end;
+    let end = m.end.0;
     let n = build_block(work, numbers, m, tag, begin, to);
-    if m.top < n.0 {
+    if m.top.0 < n.0 {
         return WorkAt(FULL);
     }
     copy_back(work, numbers, WorkAt(end), n, end, begin)
 }
 
 // The start at an index, from base up to `to`.
-fn start_of(starts: &[u32], d: usize, base: usize, to: WorkAt) -> WorkAt
-    requires { ⌜ (base ≤ to .0) × (d < length (now starts)) ⌝ }
-    ensures { λ r. ⌜ ((base ≤ r .0) × (r .0 ≤ to .0)) × (base ≤ getD (now (starts .entry)) d 0 → getD (now (starts .entry)) d 0 ≤ to .0 → r .0 ≡ getD (now (starts .entry)) d 0) ⌝ }
+fn start_of(starts: &[u32], d: usize, base: WorkAt, to: WorkAt) -> WorkAt
+    requires { ⌜ (base .0 ≤ to .0) × (d < length (now starts)) ⌝ }
+    ensures { λ r. ⌜ ((base .0 ≤ r .0) × (r .0 ≤ to .0)) × (base .0 ≤ getD (now (starts .entry)) d 0 → getD (now (starts .entry)) d 0 ≤ to .0 → r .0 ≡ getD (now (starts .entry)) d 0) ⌝ }
 {
     let s = starts[d] as usize;
     let t = to.0;
-    if s < base {
-        return WorkAt(base);
+    if s < base.0 {
+        return base;
     }
     if t < s {
         return to;
@@ -144,10 +142,10 @@ pub fn close_innermost(
     open: usize,
     to: WorkAt,
 ) -> WorkAt
-    requires { ⌜ (Lent m (now work) (now numbers) × ((m .base ≤ to .0) × (to .0 ≤ m .end))) × ((0 < «open») × ((«open» ≤ length (now starts)) × («open» ≤ length (now tags)))) ⌝ }
+    requires { ⌜ (Lent m (now work) (now numbers) × ((m .base .0 ≤ to .0) × (to .0 ≤ m .end .0))) × ((0 < «open») × ((«open» ≤ length (now starts)) × («open» ≤ length (now tags)))) ⌝ }
     ensures { λ r. ⌜ ClosesInner m (now (work .entry)) (now (numbers .entry)) (now (starts .entry)) (now (tags .entry)) «open» (to .0) (now (work .exit)) (now (numbers .exit)) (r .0) ⌝ }
 {
     let begin = start_of(starts, open - 1, m.base, to);
-    let tag = tag_of(tags, open - 1, m.text);
+    let tag = tag_of(tags, open - 1, m.text.0);
     close_quote(work, numbers, m, tag, begin, to)
 }

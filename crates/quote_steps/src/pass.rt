@@ -53,7 +53,7 @@ fn take_token(
     requires { ⌜ Ready m (now work) (now numbers) (now starts) (now tags) from ⌝ }
     ensures { λ r. ⌜ TakesToken m (now (work .entry)) (now (numbers .entry)) (now (starts .entry)) (now (tags .entry)) from (now (work .exit)) (now (numbers .exit)) (now (starts .exit)) (now (tags .exit)) r ⌝ }
 {
-    let size = m.text;
+    let size = m.text.0;
     let at = from.at;
     let known = from.bracket;
     let to = from.to;
@@ -94,7 +94,7 @@ fn take_token(
     let next = next_tag(&work[..size], PostAt(i + 1));
     let a = in_work(WorkAt(0), at);
     let e = in_work(WorkAt(0), next);
-    let r = copy_within(work, numbers, a, e, m.end, to);
+    let r = copy_within(work, numbers, a, e, m.end.0, to);
     Open {
         at: next,
         bracket,
@@ -111,12 +111,12 @@ fn take_tokens(
     starts: &mut [u32],
     tags: &mut [u32],
 ) -> Reached
-    requires { ⌜ (Lent m (now work) (now numbers) × ((length (now starts) ≡ deepMost) × (length (now tags) ≡ deepMost))) × (tooDeep (take (m .text) (cells (now work) (now numbers))) ≡ false) ⌝ }
+    requires { ⌜ (Lent m (now work) (now numbers) × ((length (now starts) ≡ deepMost) × (length (now tags) ≡ deepMost))) × (tooDeep (take (m .text .0) (cells (now work) (now numbers))) ≡ false) ⌝ }
     ensures { λ r. ⌜ RunsAll m (now (work .entry)) (now (numbers .entry)) (now (work .exit)) (now (numbers .exit)) (now (starts .exit)) (now (tags .exit)) r ⌝ }
 {
-    let size = m.text;
-    let base = m.base;
-    let end = m.end;
+    let size = m.text.0;
+    let base = m.base.0;
+    let end = m.end.0;
     let mut st = Open {
         at: PostAt(0),
         bracket: next_bracket(&work[..size], PostAt(0)),
@@ -152,11 +152,11 @@ fn close_open(
     tags: &[u32],
     from: Reached,
 ) -> Passed
-    requires { ⌜ (Lent m (now work) (now numbers) × ((m .base ≤ from .to .0) × (from .to .0 ≤ m .end))) × ((from .depth ≤ length (now starts)) × (from .depth ≤ length (now tags))) ⌝ }
+    requires { ⌜ (Lent m (now work) (now numbers) × ((m .base .0 ≤ from .to .0) × (from .to .0 ≤ m .end .0))) × ((from .depth ≤ length (now starts)) × (from .depth ≤ length (now tags))) ⌝ }
     ensures { λ r. ⌜ ClosesAll m (now (work .entry)) (now (numbers .entry)) (now (starts .entry)) (now (tags .entry)) from (now (work .exit)) (now (numbers .exit)) r ⌝ }
 {
-    let base = m.base;
-    let end = m.end;
+    let base = m.base.0;
+    let end = m.end.0;
     let mut to = from.to.0;
     let mut open = from.depth;
     let mut seen = from.seen;
@@ -174,13 +174,13 @@ fn close_open(
 
 // The whole pass: what it writes stands from base on.
 pub fn quote_pass(work: &mut [u8], numbers: &mut [u32], m: Areas) -> Passed
-    requires { ⌜ Lent m (now work) (now numbers) × (tooDeep (take (m .text) (cells (now work) (now numbers))) ≡ false) ⌝ }
-    ensures { λ r. ⌜ Leaves (m .base) (m .end) (take (m .end) (cells (now (work .exit)) (now (numbers .exit)))) (quotes caption (take (m .text) (cells (now (work .entry)) (now (numbers .entry))))) (quotesNeed caption (take (m .text) (cells (now (work .entry)) (now (numbers .entry))))) r ⌝ }
+    requires { ⌜ Lent m (now work) (now numbers) × (tooDeep (take (m .text .0) (cells (now work) (now numbers))) ≡ false) ⌝ }
+    ensures { λ r. ⌜ Leaves (m .base .0) (m .end .0) (take (m .end .0) (cells (now (work .exit)) (now (numbers .exit)))) (quotes caption (take (m .text .0) (cells (now (work .entry)) (now (numbers .entry))))) (quotesNeed caption (take (m .text .0) (cells (now (work .entry)) (now (numbers .entry))))) r ⌝ }
 {
     let mut starts: [u32; DEEP_MOST] = [0; DEEP_MOST];
     let mut tags: [u32; DEEP_MOST] = [0; DEEP_MOST];
     let st = take_tokens(work, numbers, m, &mut starts, &mut tags);
-    if m.end < st.to.0 {
+    if m.end.0 < st.to.0 {
         return Passed::Full;
     }
     close_open(work, numbers, m, &starts, &tags, st)

@@ -118,10 +118,10 @@ fn write_quotes(
     let n = text.len();
     let m = out.len();
     let areas = Areas {
-        text: n,
-        base: n,
-        end: n + m,
-        top: n + m + m,
+        text: WorkAt(n),
+        base: WorkAt(n),
+        end: WorkAt(n + m),
+        top: WorkAt(n + m + m),
     };
     set_cells(text, work, numbers, WorkAt(0));
     let passed = quote_pass(work, numbers, areas);

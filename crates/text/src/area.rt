@@ -4,6 +4,7 @@ use crate::PostAt;
 use crate::WorkAt;
 use crate::blank::place_at;
 use crate::block::within;
+use crate::bounds::FULL;
 use crate::cell::RULE_BLANK;
 use crate::cell::RULE_SIGN;
 use crate::shorter;
@@ -14,9 +15,6 @@ ghost use Prim.Native.Nat.{_+_, _-_, _≤_};
 ghost use lib.ListN.{length};
 ghost use Rattle.text.specs.Cells.{cell, cells, part, written, feed, sign};
 ghost use Rattle.text.specs.Writes.{AppendsIn, Apart, cut};
-
-// The place past every slice's end.
-const FULL: usize = 0xffff_ffff_ffff_ffff;
 
 // Appends one cell.
 pub fn put_in(buf: &mut [u8], nums: &mut [u32], end: usize, at: WorkAt, b: u8, x: u32) -> WorkAt

@@ -1,6 +1,6 @@
-// Copying in blocks of 16 within a pair of slices: a run is copied with up to 15 cells behind its end, which the next run overwrites. A block is read whole before it is
-// written, so that it is moved in a few wide steps. Bytes and numbers are copied one after the other: a long text in turns,
-// block by block, was the slower way (docs/DECISIONS.md, "Speed").
+// Copying in blocks of 16 within a pair of slices: a run is copied with up to 15 cells behind its end, which the next run overwrites. A block
+// is read whole before it is written, so that it is moved in a few wide steps. Bytes and numbers are copied one after the other: a long text in
+// turns, block by block, was the slower way (docs/DECISIONS.md, "Speed").
 ghost use mathlib.Core.Path.{_≡_};
 ghost use Prim.Native.Nat.{_+_, _-_, _≤_};
 ghost use lib.ListN.{length, take, drop};

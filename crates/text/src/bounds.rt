@@ -11,6 +11,9 @@ pub const OUT_MOST: usize = 16777216;
 // How many quotes, and how many lists, may be open.
 pub const DEEP_MOST: usize = 64;
 
+// The place past every slice's end: what was written did not fit.
+pub const FULL: usize = 0xffff_ffff_ffff_ffff;
+
 // How many work bytes are asked for.
 pub fn work_size(n: usize, m: usize) -> usize
     requires { ⌜ (n ≤ textMost) × (m ≤ outMost) ⌝ }

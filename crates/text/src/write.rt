@@ -1,6 +1,7 @@
 // Writing cells into a lent pair of slices, one behind the other. A place past the end says that the text did not fit; it stays there.
 use crate::TextAt;
 use crate::WorkAt;
+use crate::bounds::FULL;
 use crate::cell::RULE_SIGN;
 use crate::cell::origin_of;
 use crate::zero::zero8;
@@ -12,9 +13,6 @@ ghost use lib.ListN.{length, take};
 ghost use Rattle.text.specs.Cells.{cell, cells, originOf, part, sign};
 ghost use Rattle.text.specs.Decimal.{decimal};
 ghost use Rattle.text.specs.Writes.{Appends, padded, LaidOut};
-
-// The place past every slice's end.
-const FULL: usize = 0xffff_ffff_ffff_ffff;
 
 // Appends one cell.
 pub fn put(buf: &mut [u8], nums: &mut [u32], at: TextAt, b: u8, x: u32) -> TextAt

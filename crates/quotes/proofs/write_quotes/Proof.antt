@@ -10,16 +10,16 @@ use Rattle.quote_blocks.specs.Quotes.{tooDeep}
 use Rattle.quotes.proofs.write_quotes.Tie as tie
 
 -- src/lib.rt:123:14
-add-t13 : tie.Need-add-t13
-add-t13 c = search needs
-
--- src/lib.rt:124:14
-add-t14 : tie.Need-add-t14
-add-t14 c = search needs
-
--- src/lib.rt:124:14
 add-t15 : tie.Need-add-t15
 add-t15 c = search needs
+
+-- src/lib.rt:124:14
+add-t17 : tie.Need-add-t17
+add-t17 c = search needs
+
+-- src/lib.rt:124:14
+add-t18 : tie.Need-add-t18
+add-t18 c = search needs
 
 -- src/lib.rt:126:5
 set-cells-requires : tie.Need-set-cells-requires
@@ -125,9 +125,9 @@ pub write-quotes-spec : {M : Type 1} → statement M
 write-quotes-spec =
     tie.close
     (tie.spec
-    add-t13
-    add-t14
     add-t15
+    add-t17
+    add-t18
     set-cells-requires
     quote-pass-requires
     enum-told

@@ -26,12 +26,12 @@ name-requires : tie.Need-name-requires
 name-requires c κs =
     let s = c .before .before .before in
     let p = s .pre in
-    let l = cut-length (s .args .w .from) (s .args .w .to) (s .args .work .now) (p .0 .1 .0) in
-    let m = cut-length (s .args .w .joined) (s .args .w .past) (s .args .work .now) (p .0 .1 .1 .1) in
+    let l = cut-length (s .args .w .from .0) (s .args .w .to .0) (s .args .work .now) (p .0 .1 .0) in
+    let m = cut-length (s .args .w .joined .0) (s .args .w .past .0) (s .args .work .now) (p .0 .1 .1 .1) in
     (omega (arith, l, p .1 .0), λ z. let q = p .1 .1 z in omega (arith, m, q))
 
-add-t21 : tie.Need-add-t21
-add-t21 c = search needs
+add-t22 : tie.Need-add-t22
+add-t22 c = search needs
 
 returns : tie.Need-returns
 returns c =
@@ -45,8 +45,8 @@ add-t13 c = search needs
 add-t17 : tie.Need-add-t17
 add-t17 c = search needs
 
-add-t22 : tie.Need-add-t22
-add-t22 c = search needs
+add-t25 : tie.Need-add-t25
+add-t25 c = search needs
 
 returns-2 : tie.Need-returns-2
 returns-2 c =
@@ -65,9 +65,9 @@ name-at-spec =
     part-name-start-2
     part-name-end-2
     name-requires
-    add-t21
+    add-t22
     returns
     add-t13
     add-t17
-    add-t22
+    add-t25
     returns-2)

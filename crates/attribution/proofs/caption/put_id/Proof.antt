@@ -49,7 +49,7 @@ returns-2 c =
     let q = c .before .before .before .before .before .before .before .before .before .before .before .before .before .before .before .before .before .before .pre .0 in
     let p = c .before .before .before .before .before .before .before .before .before .before .before .put-sign-in .ensures in
     let l = said-length (a .work .now) (a .w) (q .0) in
-    let i : ℕ = a .w .from + a .from in
+    let i : ℕ = a .w .from .0 + a .from in
     appendsIn-as (an-id (said (a .w) (a .work .now)) (a .from) (a .size) (omega (arith, l, q .1)) (c .before .before .before .before .before .before .before .before .before .before .before .before .before .before .before .if1 .left)) (appendsIn-then p (appendsIn-as (ap written (apart-cut i (i + a .size) (inner-apart (a .work .now) (a .w) (q .0) (a .from) (a .size) (q .1)) p ∙ inner-cut (a .work .now) (a .w) (q .0) (a .from) (a .size) (q .1))) (c .before .before .before .before .put-within .ensures)))
 
 pub put-id-spec : {M : Type 1} → statement M

@@ -29,8 +29,8 @@ name-at-requires c κs =
     let a = c .before .before .before .before .before .before .args in
     let q = c .before .before .before .before .before .before .pre .0 in
     let l = said-length (a .work .now) (a .w) (q .0) in
-    let m = cut-length (a .w .joined) (a .w .past) (a .work .now) (q .0 .joined-inside) in
-    ((q .0 .order, (q .0 .inside, (q .0 .joined-order, q .0 .joined-inside))), (omega (arith, l, q .1 .fields .name .inside), λ z. let k = kept-within (said (a .w) (a .work .now)) (a .fields) (a .day) (a .ends) (q .1) (cut (a .w .joined) (a .w .past) (a .work .now)) (q .0 .joins) z in omega (arith, m, k)))
+    let m = cut-length (a .w .joined .0) (a .w .past .0) (a .work .now) (q .0 .joined-inside) in
+    ((q .0 .order, (q .0 .inside, (q .0 .joined-order, q .0 .joined-inside))), (omega (arith, l, q .1 .fields .name .inside), λ z. let k = kept-within (said (a .w) (a .work .now)) (a .fields) (a .day) (a .ends) (q .1) (cut (a .w .joined .0) (a .w .past .0) (a .work .now)) (q .0 .joins) z in omega (arith, m, k)))
 
 sub-n : tie.Need-sub-n
 sub-n c = search needs
@@ -64,8 +64,8 @@ returns c =
     let q = c .before .before .before .before .before .before .before .before .before .before .before .before .before .before .before .before .before .before .before .before .before .before .before .before .before .before .before .before .pre .0 in
     let n = c .before .before .before .before .before .before .before .before .before .before .before .before .before .before .before .before .before .before .before .before .before .name-at .ensures in
     let p = appendsIn-then (c .before .before .before .before .before .before .before .before .before .before .before .before .before .before .before .before .before .before .put-within .ensures) (c .before .before .before .before .before .before .before .before .before .before .before .put-gap .ensures) in
-    let m : length (cut (c .before .before .before .before .before .before .before .before .before .before .before .before .before .before .before .before .before .before .before .before .before .name-at .result .from) (c .before .before .before .before .before .before .before .before .before .before .before .before .before .before .before .before .before .before .before .before .before .name-at .result .to) (a .work .now)) ≡ c .before .before .before .before .before .before .before .before .before .before .before .before .before .before .before .before .before .before .before .before .before .name-at .result .to - c .before .before .before .before .before .before .before .before .before .before .before .before .before .before .before .before .before .before .before .before .before .name-at .result .from = cut-length _ _ (a .work .now) (n .inside) in
-    let k = caption-is (said (a .w) (a .work .now)) (a .fields) (a .day) (a .ends) (q .1) (cut (a .w .joined) (a .w .past) (a .work .now)) (q .0 .joins) _ _ _ (n .words) (c .before .before .before .before .before .before .before .before .before .before .before .before .before .before .before .before .before .before .before .before .before .before .before .before .is-dated .ensures) (c .before .before .before .before .before .before .before .before .before .before .before .before .before .before .before .before .before .before .before .before .before .before .before .has-more .ensures) in
+    let m : length (cut (c .before .before .before .before .before .before .before .before .before .before .before .before .before .before .before .before .before .before .before .before .before .name-at .result .from .0) (c .before .before .before .before .before .before .before .before .before .before .before .before .before .before .before .before .before .before .before .before .before .name-at .result .to .0) (a .work .now)) ≡ c .before .before .before .before .before .before .before .before .before .before .before .before .before .before .before .before .before .before .before .before .before .name-at .result .to .0 - c .before .before .before .before .before .before .before .before .before .before .before .before .before .before .before .before .before .before .before .before .before .name-at .result .from .0 = cut-length _ _ (a .work .now) (n .inside) in
+    let k = caption-is (said (a .w) (a .work .now)) (a .fields) (a .day) (a .ends) (q .1) (cut (a .w .joined .0) (a .w .past .0) (a .work .now)) (q .0 .joins) _ _ _ (n .words) (c .before .before .before .before .before .before .before .before .before .before .before .before .before .before .before .before .before .before .before .before .before .before .before .before .is-dated .ensures) (c .before .before .before .before .before .before .before .before .before .before .before .before .before .before .before .before .before .before .before .before .before .before .before .has-more .ensures) in
     appendsIn-as (rw m at k) (appendsIn-then p (appendsIn-as (ap (λ (x : List ℕ). written (spaced (within (ascii "(") (date (parts 0 x)) (ascii ")")) (within (ascii "#") (id (parts 0 x)) []))) (said-on p (q .0))) (c .before .before .before .before .put-rest .ensures)))
 
 pub put-pieces-spec : {M : Type 1} → statement M

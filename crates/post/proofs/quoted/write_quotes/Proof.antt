@@ -32,8 +32,8 @@ add-t17-2 : tie.Need-add-t17-2
 add-t17-2 c = let Q = c .before .before .before .before .before .pre .0 in omega (arith, Q .areas, Q .room, Q .small)
 
 -- src/quoted.rt:39:14
-add-t18 : tie.Need-add-t18
-add-t18 c = let Q = c .before .before .before .before .before .pre .0 in omega (arith, Q .areas, Q .room, Q .small)
+add-t21 : tie.Need-add-t21
+add-t21 c = let Q = c .before .before .before .before .before .pre .0 in omega (arith, Q .areas, Q .room, Q .small)
 
 -- src/quoted.rt:41:35
 slice-relend-prefix-quote-pass : tie.Need-slice-relend-prefix-quote-pass
@@ -164,7 +164,7 @@ write-quotes-spec =
     add-t17
     add-t16
     add-t17-2
-    add-t18
+    add-t21
     slice-relend-prefix-quote-pass
     slice-aggregate-quote-pass
     quote-pass-requires

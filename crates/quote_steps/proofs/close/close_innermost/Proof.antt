@@ -49,12 +49,12 @@ returns c =
     let b = c .before .before .before .before .before .before .before .before .start-of .ensures in
     let q = c .before .before .before .before .close-quote .ensures in
     let h = p .0 .0 .0 .1 in
-    let hb : m .end ≤ length (x .work .now) = omega (arith, p .0 .0) in
-    let hn : m .end ≤ length (x .numbers .now) = omega (arith, p .0 .0) in
+    let hb : m .end .0 ≤ length (x .work .now) = omega (arith, p .0 .0) in
+    let hn : m .end .0 ≤ length (x .numbers .now) = omega (arith, p .0 .0) in
     record {
       place = omega (arith, b .0 .0, q .0);
-      text = closing-keeps caption (m .text) (m .base) (m .end) (x .work .now) (x .numbers .now) (x .to .0) (x .starts .now) (x .tags .now) (x .«open») (p .0 .0 .0 .0) h hb hn (p .0 .1 .1) (q .1) (b .0 .0) (omega (arith, b .0 .1, p .0 .1 .1)) (search needs) (search needs);
-      closes = closes-last caption (m .text) (m .base) (m .end) (x .work .now) (x .numbers .now) (x .to .0) (x .starts .now) (x .tags .now) (x .«open») (p .0 .0 .0 .0) h hb hn (p .0 .1 .1) _ _ (b .1) (c .before .before .before .before .before .before .before .tag-of .ensures .1) (q .1);
+      text = closing-keeps caption (m .text .0) (m .base .0) (m .end .0) (x .work .now) (x .numbers .now) (x .to .0) (x .starts .now) (x .tags .now) (x .«open») (p .0 .0 .0 .0) h hb hn (p .0 .1 .1) (q .1) (b .0 .0) (omega (arith, b .0 .1, p .0 .1 .1)) (search needs) (search needs);
+      closes = closes-last caption (m .text .0) (m .base .0) (m .end .0) (x .work .now) (x .numbers .now) (x .to .0) (x .starts .now) (x .tags .now) (x .«open») (p .0 .0 .0 .0) h hb hn (p .0 .1 .1) _ _ (b .1) (c .before .before .before .before .before .before .before .tag-of .ensures .1) (q .1);
     }
 
 pub close-innermost-spec : {M : Type 1} → statement M

@@ -27,7 +27,7 @@ returns c =
     let x = c .before .before .before .before .before .before .before .before .before .before .before .before .args in
     let p = c .before .before .before .before .before .before .before .before .before .before .before .before .pre in
     let b = c .before .before .before .before .before .before .before .build-block .ensures in
-    (omega (arith, p .1, p .0), closes-within-full (x .work .now) (x .numbers .now) _ _ (x .begin .0) (x .to .0) (x .m .end) (x .m .top) _ (quoteBlock _) b (p .1 .1 .1 .1) (p .0 .1 .1 .1 .0) (omega (arith, p .0 .1 .0 .0)) (p .0 .1 .0 .1) (search needs) (search needs) 18446744073709551615 (c .if1 .taken) (omega (arith, p .1 .1 .0, p .0 .1 .1 .0)) (omega (arith, p .0 .1 .1 .1)))
+    (omega (arith, p .1, p .0), closes-within-full (x .work .now) (x .numbers .now) _ _ (x .begin .0) (x .to .0) (x .m .end .0) (x .m .top .0) _ (quoteBlock _) b (p .1 .1 .1 .1) (p .0 .1 .1 .1 .0) (omega (arith, p .0 .1 .0 .0)) (p .0 .1 .0 .1) (search needs) (search needs) 18446744073709551615 (c .if1 .taken) (omega (arith, p .1 .1 .0, p .0 .1 .1 .0)) (omega (arith, p .0 .1 .1 .1)))
 
 -- src/close.rt:106:5
 copy-back-requires : tie.Need-copy-back-requires
@@ -51,7 +51,7 @@ returns-2 c =
     let p = c .before .before .before .before .before .before .before .before .before .before .before .before .before .before .before .before .before .before .before .pre in
     let b = c .before .before .before .before .before .before .before .before .before .before .before .before .before .before .build-block .ensures in
     let q = c .before .before .before .before .copy-back .ensures in
-    (q .appends .grows, closes-within (x .work .now) (x .numbers .now) _ _ (x .begin .0) (x .to .0) (x .m .end) (x .m .top) _ (quoteBlock _) b (p .1 .1 .1 .1) (p .0 .1 .1 .1 .0) (omega (arith, p .0 .1 .0 .0)) (p .0 .1 .0 .1) (search needs) (search needs) (omega (arith, c .before .before .before .before .before .before .before .if1 .left)) q)
+    (q .appends .grows, closes-within (x .work .now) (x .numbers .now) _ _ (x .begin .0) (x .to .0) (x .m .end .0) (x .m .top .0) _ (quoteBlock _) b (p .1 .1 .1 .1) (p .0 .1 .1 .1 .0) (omega (arith, p .0 .1 .0 .0)) (p .0 .1 .0 .1) (search needs) (search needs) (omega (arith, c .before .before .before .before .before .before .before .if1 .left)) q)
 
 pub close-quote-spec : {M : Type 1} → statement M
 close-quote-spec =

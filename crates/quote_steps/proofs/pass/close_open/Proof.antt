@@ -11,7 +11,7 @@ use mathlib.Core.Path.{subst}
 use Rattle.quote_steps.proofs.pass.close_open.Tie as tie
 
 abbrev Inv-loop : tie.InvT-loop
-Inv-loop work₀ numbers₀ m starts tags base end to₀ open₀ seen₀ work numbers to «open» seen = ((length work ≡ length work₀) × (length numbers ≡ length numbers₀)) × ((m .base ≤ to) × (to ≤ m .end)) × («open» ≤ open₀) × ClosingAll m work₀ numbers₀ starts tags (record { to = record { 0 = to₀ }; depth = open₀; seen = seen₀ }) work numbers to «open» seen
+Inv-loop work₀ numbers₀ m starts tags base end to₀ open₀ seen₀ work numbers to «open» seen = ((length work ≡ length work₀) × (length numbers ≡ length numbers₀)) × ((m .base .0 ≤ to) × (to ≤ m .end .0)) × («open» ≤ open₀) × ClosingAll m work₀ numbers₀ starts tags (record { to = record { 0 = to₀ }; depth = open₀; seen = seen₀ }) work numbers to «open» seen
 
 abbrev μ-loop : tie.MeasureT-loop
 μ-loop work₀ numbers₀ m starts tags base end to₀ open₀ seen₀ work numbers to «open» seen = «open»

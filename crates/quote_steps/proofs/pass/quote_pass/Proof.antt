@@ -71,9 +71,9 @@ returns-2 c =
     let L = c .before .before .before .before .before .before .before .before .before .before .before .before .before .before .before .before .before .before .before .before .before .before .before .before .before .pre .0 in
     let Q = c .before .before .before .before .before .before .before .before .before .before .before .before .before .before .before .before .before .before .take-tokens .ensures in
     let f = Q .done (c .before .before .before .before .before .before .before .before .before .if1 .left) in
-    let hb : x .m .end ≤ length (x .work .now) = omega (arith, L) in
-    let hn : x .m .end ≤ length (x .numbers .now) = omega (arith, L) in
-    pass-done (x .m) (x .work .now) (x .numbers .now) (L .0 .0) (L .0 .1) hb hn f (take (x .m .end) (cells (c .before .before .before .before .close-open .last .0) (c .before .before .before .before .close-open .last .1 .0))) (c .before .before .before .before .close-open .result) (c .before .before .before .before .close-open .ensures _ (f .now) (f .opened) (length-take-le (x .m .base) _ (cells-le (x .work .now) (x .numbers .now) (x .m .base) (omega (arith, L)) (omega (arith, L)))) (seen-short (x .m) (x .work .now) (x .numbers .now) (L .0 .0) (L .0 .1) hb hn f) (f .stands))
+    let hb : x .m .end .0 ≤ length (x .work .now) = omega (arith, L) in
+    let hn : x .m .end .0 ≤ length (x .numbers .now) = omega (arith, L) in
+    pass-done (x .m) (x .work .now) (x .numbers .now) (L .0 .0) (L .0 .1) hb hn f (take (x .m .end .0) (cells (c .before .before .before .before .close-open .last .0) (c .before .before .before .before .close-open .last .1 .0))) (c .before .before .before .before .close-open .result) (c .before .before .before .before .close-open .ensures _ (f .now) (f .opened) (length-take-le (x .m .base .0) _ (cells-le (x .work .now) (x .numbers .now) (x .m .base .0) (omega (arith, L)) (omega (arith, L)))) (seen-short (x .m) (x .work .now) (x .numbers .now) (L .0 .0) (L .0 .1) hb hn f) (f .stands))
 
 pub quote-pass-spec : {M : Type 1} → statement M
 quote-pass-spec =

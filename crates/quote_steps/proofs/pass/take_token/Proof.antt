@@ -29,7 +29,7 @@ slice-aggregate-tag-at c =
     let m = x .m in
     let o = x .from in
     let L = p .lent in
-    let l : length (take (m .text) (x .work .now)) ≡ m .text = length-take-le (m .text) (x .work .now) (omega (arith, L)) in
+    let l : length (take (m .text .0) (x .work .now)) ≡ m .text .0 = length-take-le (m .text .0) (x .work .now) (omega (arith, L)) in
     sym l
 
 -- src/pass.rt:72:9
@@ -40,7 +40,7 @@ tag-at-requires c κs =
     let m = x .m in
     let o = x .from in
     let L = p .lent in
-    let l : length (take (m .text) (x .work .now)) ≡ m .text = length-take-le (m .text) (x .work .now) (omega (arith, L)) in
+    let l : length (take (m .text .0) (x .work .now)) ≡ m .text .0 = length-take-le (m .text .0) (x .work .now) (omega (arith, L)) in
     (omega (arith, l, p .at), p .bracket)
 
 -- src/pass.rt:76:25
@@ -82,8 +82,8 @@ add-t27 c =
     let m = x .m in
     let o = x .from in
     let L = p .lent in
-    let l : length (take (m .text) (x .work .now)) ≡ m .text = length-take-le (m .text) (x .work .now) (omega (arith, L)) in
-    let w = behind-within openers (take (m .text) (x .work .now)) (o .at .0) (omega (arith, l, p .at)) (c .before .before .tag-at .ensures .1 .0) in
+    let l : length (take (m .text .0) (x .work .now)) ≡ m .text .0 = length-take-le (m .text .0) (x .work .now) (omega (arith, L)) in
+    let w = behind-within openers (take (m .text .0) (x .work .now)) (o .at .0) (omega (arith, l, p .at)) (c .before .before .tag-at .ensures .1 .0) in
     omega (arith, w, l, L)
 
 -- src/pass.rt:82:20
@@ -111,13 +111,13 @@ returns c =
     let m = x .m in
     let o = x .from in
     let L = p .lent in
-    let l : length (take (m .text) (x .work .now)) ≡ m .text = length-take-le (m .text) (x .work .now) (omega (arith, L)) in
+    let l : length (take (m .text .0) (x .work .now)) ≡ m .text .0 = length-take-le (m .text .0) (x .work .now) (omega (arith, L)) in
     let he = L .0 .0 in
     let hp = L .0 .1 in
-    let hb : m .end ≤ length (x .work .now) = omega (arith, L) in
-    let hn : m .end ≤ length (x .numbers .now) = omega (arith, L) in
+    let hb : m .end .0 ≤ length (x .work .now) = omega (arith, L) in
+    let hn : m .end .0 ≤ length (x .numbers .now) = omega (arith, L) in
     let ht = p .to .1 in
-    let s = take (m .text) (x .work .now) in
+    let s = take (m .text .0) (x .work .now) in
     let il : o .at .0 ≤ length s = omega (arith, l, p .at) in
     let E = c .before .before .tag-at .ensures in
     let n = c .if1 .taken in
@@ -129,7 +129,7 @@ returns c =
       depth = omega (arith, g);
       text = refl;
       bracket = bracket-past s (o .at .0) (o .at .0 + c .before .before .tag-at .result .opener) (omega arith) w (E .0);
-      takes = opener-taken caption (m .text) (m .base) (m .end) (x .work .now) (x .numbers .now) (o .to .0) (x .starts .now) (x .tags .now) (o .depth) he hp hb hn ht (o .at .0) (p .at) (E .1 .0) n (omega (arith, g, p .tables .0)) (omega (arith, g, p .tables .1 .0));
+      takes = opener-taken caption (m .text .0) (m .base .0) (m .end .0) (x .work .now) (x .numbers .now) (o .to .0) (x .starts .now) (x .tags .now) (o .depth) he hp hb hn ht (o .at .0) (p .at) (E .1 .0) n (omega (arith, g, p .tables .0)) (omega (arith, g, p .tables .1 .0));
     }
 
 -- src/pass.rt:89:28
@@ -141,8 +141,8 @@ add-t33 c =
     let m = x .m in
     let o = x .from in
     let L = p .lent in
-    let l : length (take (m .text) (x .work .now)) ≡ m .text = length-take-le (m .text) (x .work .now) (omega (arith, L)) in
-    let w = behind-within closers (take (m .text) (x .work .now)) (o .at .0) (omega (arith, l, p .at)) (c .before .before .before .before .tag-at .ensures .1 .1) in
+    let l : length (take (m .text .0) (x .work .now)) ≡ m .text .0 = length-take-le (m .text .0) (x .work .now) (omega (arith, L)) in
+    let w = behind-within closers (take (m .text .0) (x .work .now)) (o .at .0) (omega (arith, l, p .at)) (c .before .before .before .before .tag-at .ensures .1 .1) in
     omega (arith, w, l, L)
 
 -- src/pass.rt:88:13
@@ -158,13 +158,13 @@ returns-2 c =
     let m = x .m in
     let o = x .from in
     let L = p .lent in
-    let l : length (take (m .text) (x .work .now)) ≡ m .text = length-take-le (m .text) (x .work .now) (omega (arith, L)) in
+    let l : length (take (m .text .0) (x .work .now)) ≡ m .text .0 = length-take-le (m .text .0) (x .work .now) (omega (arith, L)) in
     let he = L .0 .0 in
     let hp = L .0 .1 in
-    let hb : m .end ≤ length (x .work .now) = omega (arith, L) in
-    let hn : m .end ≤ length (x .numbers .now) = omega (arith, L) in
+    let hb : m .end .0 ≤ length (x .work .now) = omega (arith, L) in
+    let hn : m .end .0 ≤ length (x .numbers .now) = omega (arith, L) in
     let ht = p .to .1 in
-    let s = take (m .text) (x .work .now) in
+    let s = take (m .text .0) (x .work .now) in
     let il : o .at .0 ≤ length s = omega (arith, l, p .at) in
     let E = c .before .before .before .before .tag-at .ensures in
     let n = c .before .if2 .taken in
@@ -175,7 +175,7 @@ returns-2 c =
       depth = p .tables .1 .1;
       text = refl;
       bracket = bracket-past s (o .at .0) (o .at .0 + c .before .before .before .before .tag-at .result .closer) (omega arith) w (E .0);
-      takes = stray-taken caption (m .text) (m .base) (m .end) (x .work .now) (x .numbers .now) (o .to .0) (x .starts .now) (x .tags .now) (o .depth) he hp hb hn ht (o .at .0) (p .at) (E .1 .0) (c .before .before .if1 .left) (E .1 .1) n (c .if3 .taken);
+      takes = stray-taken caption (m .text .0) (m .base .0) (m .end .0) (x .work .now) (x .numbers .now) (o .to .0) (x .starts .now) (x .tags .now) (o .depth) he hp hb hn ht (o .at .0) (p .at) (E .1 .0) (c .before .before .if1 .left) (E .1 .1) n (c .if3 .taken);
     }
 
 -- src/pass.rt:95:13
@@ -193,8 +193,8 @@ add-t43 c =
     let m = x .m in
     let o = x .from in
     let L = p .lent in
-    let l : length (take (m .text) (x .work .now)) ≡ m .text = length-take-le (m .text) (x .work .now) (omega (arith, L)) in
-    let w = behind-within closers (take (m .text) (x .work .now)) (o .at .0) (omega (arith, l, p .at)) (c .before .before .before .before .before .before .before .before .before .before .before .before .before .tag-at .ensures .1 .1) in
+    let l : length (take (m .text .0) (x .work .now)) ≡ m .text .0 = length-take-le (m .text .0) (x .work .now) (omega (arith, L)) in
+    let w = behind-within closers (take (m .text .0) (x .work .now)) (o .at .0) (omega (arith, l, p .at)) (c .before .before .before .before .before .before .before .before .before .before .before .before .before .tag-at .ensures .1 .1) in
     omega (arith, w, l, L)
 
 -- src/pass.rt:100:20
@@ -226,13 +226,13 @@ returns-3 c =
     let m = x .m in
     let o = x .from in
     let L = p .lent in
-    let l : length (take (m .text) (x .work .now)) ≡ m .text = length-take-le (m .text) (x .work .now) (omega (arith, L)) in
+    let l : length (take (m .text .0) (x .work .now)) ≡ m .text .0 = length-take-le (m .text .0) (x .work .now) (omega (arith, L)) in
     let he = L .0 .0 in
     let hp = L .0 .1 in
-    let hb : m .end ≤ length (x .work .now) = omega (arith, L) in
-    let hn : m .end ≤ length (x .numbers .now) = omega (arith, L) in
+    let hb : m .end .0 ≤ length (x .work .now) = omega (arith, L) in
+    let hn : m .end .0 ≤ length (x .numbers .now) = omega (arith, L) in
     let ht = p .to .1 in
-    let s = take (m .text) (x .work .now) in
+    let s = take (m .text .0) (x .work .now) in
     let il : o .at .0 ≤ length s = omega (arith, l, p .at) in
     let E = c .before .before .before .before .before .before .before .before .before .before .before .before .before .tag-at .ensures in
     let n = c .before .before .before .before .before .before .before .before .before .before .if2 .taken in
@@ -245,7 +245,7 @@ returns-3 c =
       depth = omega (arith, p .tables .1 .1);
       text = Q .text;
       bracket = subst (λ (y : List ℕ). NextBracket y to (c .before .before .before .before .before .before .before .before .before .before .before .before .before .tag-at .result .bracket .0)) (sym (Q .text)) (bracket-past s (o .at .0) to (omega arith) w (E .0));
-      takes = closer-taken caption (m .text) (m .base) (m .end) (x .work .now) (x .numbers .now) (o .to .0) (x .starts .now) (x .tags .now) (o .depth) he hp hb hn ht (o .at .0) (p .at) (E .1 .0) (c .before .before .before .before .before .before .before .before .before .before .before .if1 .left) (E .1 .1) n (c .before .before .before .before .before .before .before .before .before .if3 .left) (Q .closes);
+      takes = closer-taken caption (m .text .0) (m .base .0) (m .end .0) (x .work .now) (x .numbers .now) (o .to .0) (x .starts .now) (x .tags .now) (o .depth) he hp hb hn ht (o .at .0) (p .at) (E .1 .0) (c .before .before .before .before .before .before .before .before .before .before .before .if1 .left) (E .1 .1) n (c .before .before .before .before .before .before .before .before .before .if3 .left) (Q .closes);
     }
 
 -- src/pass.rt:103:25
@@ -260,7 +260,7 @@ slice-aggregate-next-tag c =
     let m = x .m in
     let o = x .from in
     let L = p .lent in
-    let l : length (take (m .text) (x .work .now)) ≡ m .text = length-take-le (m .text) (x .work .now) (omega (arith, L)) in
+    let l : length (take (m .text .0) (x .work .now)) ≡ m .text .0 = length-take-le (m .text .0) (x .work .now) (omega (arith, L)) in
     sym l
 
 -- src/pass.rt:103:47
@@ -275,7 +275,7 @@ next-tag-requires c κs =
     let m = x .m in
     let o = x .from in
     let L = p .lent in
-    let l : length (take (m .text) (x .work .now)) ≡ m .text = length-take-le (m .text) (x .work .now) (omega (arith, L)) in
+    let l : length (take (m .text .0) (x .work .now)) ≡ m .text .0 = length-take-le (m .text .0) (x .work .now) (omega (arith, L)) in
     omega (arith, l, p .at)
 
 -- src/pass.rt:104:9
@@ -290,7 +290,7 @@ in-work-requires-2 c κs =
     let m = x .m in
     let o = x .from in
     let L = p .lent in
-    let l : length (take (m .text) (x .work .now)) ≡ m .text = length-take-le (m .text) (x .work .now) (omega (arith, L)) in
+    let l : length (take (m .text .0) (x .work .now)) ≡ m .text .0 = length-take-le (m .text .0) (x .work .now) (omega (arith, L)) in
     let r = c .before .next-tag .ensures .0 in
     omega (arith, r .1, l, L)
 
@@ -302,7 +302,7 @@ copy-within-requires c κs =
     let m = x .m in
     let o = x .from in
     let L = p .lent in
-    let l : length (take (m .text) (x .work .now)) ≡ m .text = length-take-le (m .text) (x .work .now) (omega (arith, L)) in
+    let l : length (take (m .text .0) (x .work .now)) ≡ m .text .0 = length-take-le (m .text .0) (x .work .now) (omega (arith, L)) in
     let r = c .before .before .before .before .next-tag .ensures .0 in
     let a = c .before .before .before .in-work .ensures in
     let e = c .before .before .in-work2 .ensures in
@@ -324,13 +324,13 @@ returns-4 c =
     let m = x .m in
     let o = x .from in
     let L = p .lent in
-    let l : length (take (m .text) (x .work .now)) ≡ m .text = length-take-le (m .text) (x .work .now) (omega (arith, L)) in
+    let l : length (take (m .text .0) (x .work .now)) ≡ m .text .0 = length-take-le (m .text .0) (x .work .now) (omega (arith, L)) in
     let he = L .0 .0 in
     let hp = L .0 .1 in
-    let hb : m .end ≤ length (x .work .now) = omega (arith, L) in
-    let hn : m .end ≤ length (x .numbers .now) = omega (arith, L) in
+    let hb : m .end .0 ≤ length (x .work .now) = omega (arith, L) in
+    let hn : m .end .0 ≤ length (x .numbers .now) = omega (arith, L) in
     let ht = p .to .1 in
-    let s = take (m .text) (x .work .now) in
+    let s = take (m .text .0) (x .work .now) in
     let il : o .at .0 ≤ length s = omega (arith, l, p .at) in
     let E = c .before .before .before .before .before .before .before .before .before .before .before .before .before .before .tag-at .ensures in
     let r = c .before .before .before .before .before .before .before .before .before .next-tag .ensures .0 in
@@ -340,14 +340,14 @@ returns-4 c =
     let a' : c .before .before .before .before .before .before .before .before .in-work .result .0 ≡ o .at .0 = omega (arith, a) in
     let e' : c .before .before .before .before .before .before .before .in-work2 .result .0 ≡ to = omega (arith, e) in
     let Q = appendsIn-as (ap (λ (i : ℕ). part i (c .before .before .before .before .before .before .before .in-work2 .result .0) (cells (x .work .now) (x .numbers .now))) a' ∙ ap (λ (i : ℕ). part (o .at .0) i (cells (x .work .now) (x .numbers .now))) e') (c .before .before .before .before .copy-within .ensures) in
-    let kept = appending-keeps caption (m .text) (m .base) (m .end) (x .work .now) (x .numbers .now) (o .to .0) (x .starts .now) (x .tags .now) (o .depth) he hp hb hn ht Q (p .to .0) (search needs) (search needs) in
+    let kept = appending-keeps caption (m .text .0) (m .base .0) (m .end .0) (x .work .now) (x .numbers .now) (o .to .0) (x .starts .now) (x .tags .now) (o .depth) he hp hb hn ht Q (p .to .0) (search needs) (search needs) in
     record {
       on = (omega (arith, r .0), omega (arith, r .1, l));
       place = omega (arith, p .to .0, Q .appends .grows);
       depth = p .tables .1 .1;
       text = kept;
       bracket = subst (λ (y : List ℕ). NextBracket y to (c .before .before .before .before .before .before .before .before .before .before .before .before .before .before .tag-at .result .bracket .0)) (sym kept) (bracket-past s (o .at .0) to (omega (arith, r .0)) (r .1) (E .0));
-      takes = text-taken caption (m .text) (m .base) (m .end) (x .work .now) (x .numbers .now) (o .to .0) (x .starts .now) (x .tags .now) (o .depth) he hp hb hn ht (o .at .0) (p .at) (E .1 .0) (c .before .before .before .before .before .before .before .before .before .before .before .before .if1 .left) (E .1 .1) (c .before .before .before .before .before .before .before .before .before .before .before .if2 .left) (c .before .before .before .before .before .before .before .before .before .next-tag .ensures) Q;
+      takes = text-taken caption (m .text .0) (m .base .0) (m .end .0) (x .work .now) (x .numbers .now) (o .to .0) (x .starts .now) (x .tags .now) (o .depth) he hp hb hn ht (o .at .0) (p .at) (E .1 .0) (c .before .before .before .before .before .before .before .before .before .before .before .before .if1 .left) (E .1 .1) (c .before .before .before .before .before .before .before .before .before .before .before .if2 .left) (c .before .before .before .before .before .before .before .before .before .next-tag .ensures) Q;
     }
 
 pub take-token-spec : {M : Type 1} → statement M

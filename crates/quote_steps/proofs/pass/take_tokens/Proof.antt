@@ -14,12 +14,12 @@ use Rattle.quote_steps.proofs.pass.take_tokens.Tie as tie
 
 abbrev Inv-loop : tie.InvT-loop
 Inv-loop work₀ numbers₀ m starts₀ tags₀ size base end st₀ seen₀ i₀ work numbers starts tags st seen i =
-    ((length work ≡ length work₀) × (length numbers ≡ length numbers₀)) × ((length starts ≡ length starts₀) × (length tags ≡ length tags₀)) × (take (m .text) work ≡ take (m .text) work₀) × ((i ≡ st .at .0) × (i ≤ m .text)) × ((m .base ≤ st .to .0) × (st .to .0 ≤ m .end))
-    × ((st .depth ≤ 64) × NextBracket (take (m .text) work) (st .at .0) (st .bracket .0))
-    × ((he : m .text ≤ m .base) (hp : m .base ≤ m .end) (hb : m .end ≤ length work₀) (hn : m .end ≤ length numbers₀) → RunningIn m work₀ numbers₀ he hp hb hn work numbers (st .to .0) starts tags (st .depth) (st .at .0) seen)
+    ((length work ≡ length work₀) × (length numbers ≡ length numbers₀)) × ((length starts ≡ length starts₀) × (length tags ≡ length tags₀)) × (take (m .text .0) work ≡ take (m .text .0) work₀) × ((i ≡ st .at .0) × (i ≤ m .text .0)) × ((m .base .0 ≤ st .to .0) × (st .to .0 ≤ m .end .0))
+    × ((st .depth ≤ 64) × NextBracket (take (m .text .0) work) (st .at .0) (st .bracket .0))
+    × ((he : m .text .0 ≤ m .base .0) (hp : m .base .0 ≤ m .end .0) (hb : m .end .0 ≤ length work₀) (hn : m .end .0 ≤ length numbers₀) → RunningIn m work₀ numbers₀ he hp hb hn work numbers (st .to .0) starts tags (st .depth) (st .at .0) seen)
 
 abbrev μ-loop : tie.MeasureT-loop
-μ-loop work₀ numbers₀ m starts₀ tags₀ size base end st₀ seen₀ i₀ work numbers starts tags st seen i = m .text - i
+μ-loop work₀ numbers₀ m starts₀ tags₀ size base end st₀ seen₀ i₀ work numbers starts tags st seen i = m .text .0 - i
 
 -- src/pass.rt:131:31
 slice-reshare-prefix-next-bracket : tie.Need-slice-reshare-prefix-next-bracket Inv-loop μ-loop
@@ -30,7 +30,7 @@ slice-aggregate-next-bracket : tie.Need-slice-aggregate-next-bracket Inv-loop μ
 slice-aggregate-next-bracket c =
     let x = c .before .before .before .before .before .args in
     let p = c .before .before .before .before .before .pre in
-    sym (length-take-le (x .m .text) (x .work .now) (omega (arith, p .0 .0)))
+    sym (length-take-le (x .m .text .0) (x .work .now) (omega (arith, p .0 .0)))
 
 -- src/pass.rt:131:18
 next-bracket-requires : tie.Need-next-bracket-requires Inv-loop μ-loop
@@ -59,8 +59,8 @@ take-token-requires c κs =
     let m = x .m in
     let L = p .0 .0 in
     let v = c .before .before .before .before .before .before .before .before .loop .inv in
-    let hb : m .end ≤ length (x .work .now) = omega (arith, L) in
-    let hn : m .end ≤ length (x .numbers .now) = omega (arith, L) in
+    let hb : m .end .0 ≤ length (x .work .now) = omega (arith, L) in
+    let hn : m .end .0 ≤ length (x .numbers .now) = omega (arith, L) in
     let R = v .6 (L .0 .0) (L .0 .1) hb hn in
     record {
       lent = (L .0, ((omega (arith, L .1 .0 .0, v .0 .0), omega (arith, L .1 .0 .1, v .0 .1)), L .1 .1));
@@ -95,8 +95,8 @@ returns c =
     let m = x .m in
     let L = p .0 .0 in
     let v = c .before .before .before .before .before .before .before .before .before .before .before .before .before .before .before .before .before .before .before .loop .inv in
-    let hb : m .end ≤ length (x .work .now) = omega (arith, L) in
-    let hn : m .end ≤ length (x .numbers .now) = omega (arith, L) in
+    let hb : m .end .0 ≤ length (x .work .now) = omega (arith, L) in
+    let hn : m .end .0 ≤ length (x .numbers .now) = omega (arith, L) in
     let R = v .6 (L .0 .0) (L .0 .1) hb hn in
     let Q = c .before .before .before .before .before .before .before .before .before .before .take-token .ensures in
     record {
@@ -121,8 +121,8 @@ loop-again c =
     let m = x .m in
     let L = p .0 .0 in
     let v = c .before .before .before .before .before .before .before .before .before .before .before .before .before .before .before .before .before .before .before .before .loop .inv in
-    let hb : m .end ≤ length (x .work .now) = omega (arith, L) in
-    let hn : m .end ≤ length (x .numbers .now) = omega (arith, L) in
+    let hb : m .end .0 ≤ length (x .work .now) = omega (arith, L) in
+    let hn : m .end .0 ≤ length (x .numbers .now) = omega (arith, L) in
     let R = v .6 (L .0 .0) (L .0 .1) hb hn in
     let Q = c .before .before .before .before .before .before .before .before .before .before .before .take-token .ensures in
     ((search needs, search needs), (search needs, search needs), Q .text ∙ v .2, (refl, Q .on .1), (Q .place, c .before .if1 .left), (Q .depth, Q .bracket), λ he hp hb' hn'. run-on m (x .work .now) (x .numbers .now) he hp hb' hn' (v .6 he hp hb' hn') (omega (arith, hb, v .0 .0)) (omega (arith, hn, v .0 .1)) (v .4 .1) (Q .takes) (search needs) (search needs) (c .before .if1 .left) _ (c .before .before .before .before .before .before .before .before .before .before .before .before .before .before .before .before .greater .ensures))
@@ -151,8 +151,8 @@ returns-2 c =
     let m = x .m in
     let L = p .0 .0 in
     let v = c .before .before .loop .inv in
-    let hb : m .end ≤ length (x .work .now) = omega (arith, L) in
-    let hn : m .end ≤ length (x .numbers .now) = omega (arith, L) in
+    let hb : m .end .0 ≤ length (x .work .now) = omega (arith, L) in
+    let hn : m .end .0 ≤ length (x .numbers .now) = omega (arith, L) in
     let R = v .6 (L .0 .0) (L .0 .1) hb hn in
     record {
       place = v .4 .0;
