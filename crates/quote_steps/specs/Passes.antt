@@ -11,7 +11,7 @@
 --   more s x              the state s, and text behind it
 --   Ready ..              there is a token to take
 --   Takes, TakesOne       one token has been taken, and text behind it; TakesToken: in a pair of slices, whose text stays
---   Leaves .. need r      the area holds the pass's result and r its need, or the need exceeds the room
+--   Leaves .. need r      the area holds the pass's result and r its need, or the need exceeds the room; PassedIn: of the whole pass
 --   ClosesAll             all open quotes have been closed, as far as they fit
 --   RunsAll               all tokens have been taken, as far as they fit; Finishing: what is open behind them
 -- Assumes nothing.
@@ -132,6 +132,10 @@ pub record TakesToken (m : Areas) (bs ns starts tags : List ℕ) (o : Open) (bs'
 abbrev pub Leaves : (base end : ℕ) (v result : List Cell) (need : ℕ) → Passed → Type 0
 Leaves base end v result need (Done to n) = ((base + need ≤ end) × (n ≡ need)) × ((to .0 ≡ base + length result) × (part base (to .0) v ≡ result))
 Leaves base end v result need Full = end < base + need
+
+abbrev pub PassedIn : (m : Areas) (bs ns bs' ns' : List ℕ) → Passed → Type 0
+PassedIn m bs ns bs' ns' =
+    Leaves (m .base .0) (m .end .0) (take (m .end .0) (cells bs' ns')) (quotes caption (take (m .text .0) (cells bs ns))) (quotesNeed caption (take (m .text .0) (cells bs ns)))
 
 -- whatever is open at r
 abbrev pub ClosesAll : (m : Areas) (bs ns starts tags : List ℕ) (r : Reached) (bs' ns' : List ℕ) → Passed → Type 0

@@ -16,9 +16,8 @@ ghost use Prim.Native.Nat.{_≤_};
 ghost use lib.ListN.{length, take};
 ghost use Rattle.text.specs.Bounds.{deepMost};
 ghost use Rattle.text.specs.Cells.{cells};
-ghost use Rattle.attribution_parts.specs.Attribution.{caption};
-ghost use Rattle.quote_blocks.specs.Quotes.{tooDeep, quotes, quotesNeed};
-ghost use Rattle.quote_steps.specs.Passes.{Lent, Ready, TakesToken, RunsAll, ClosesAll, Leaves};
+ghost use Rattle.quote_blocks.specs.Quotes.{tooDeep};
+ghost use Rattle.quote_steps.specs.Passes.{Lent, Ready, TakesToken, RunsAll, ClosesAll, PassedIn};
 
 // What is open behind a place of the text: the next `]`, where the contents end, and how many quotes.
 pub struct Open {
@@ -175,7 +174,7 @@ fn close_open(
 // The whole pass: what it writes stands from base on.
 pub fn quote_pass(work: &mut [u8], numbers: &mut [u32], m: Areas) -> Passed
     requires { ⌜ Lent m (now work) (now numbers) × (tooDeep (take (m .text .0) (cells (now work) (now numbers))) ≡ false) ⌝ }
-    ensures { λ r. ⌜ Leaves (m .base .0) (m .end .0) (take (m .end .0) (cells (now (work .exit)) (now (numbers .exit)))) (quotes caption (take (m .text .0) (cells (now (work .entry)) (now (numbers .entry))))) (quotesNeed caption (take (m .text .0) (cells (now (work .entry)) (now (numbers .entry))))) r ⌝ }
+    ensures { λ r. ⌜ PassedIn m (now (work .entry)) (now (numbers .entry)) (now (work .exit)) (now (numbers .exit)) r ⌝ }
 {
     let mut starts: [u32; DEEP_MOST] = [0; DEEP_MOST];
     let mut tags: [u32; DEEP_MOST] = [0; DEEP_MOST];
