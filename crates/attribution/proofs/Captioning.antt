@@ -17,17 +17,16 @@ use Rattle.attribution_parts.specs.declared.Kind.{Kind}
 use Rattle.attribution_parts.specs.declared.Kind.the-variants.{Name, Date, Time}
 use Rattle.attribution_reading.specs.declared.facts.Field.{Field}
 use Rattle.attribution_parts.specs.Parts.{parts}
-use Rattle.attribution_parts.specs.Attribution.{spaced, within, fieldOf, isDay, date, id, name, kept, texts, orElse, captionOf, caption}
-use Rattle.attribution_reading.specs.Reads.{FieldAt}
+use Rattle.attribution_parts.specs.Attribution.{spaced, within, fieldOf, isDay, date, id, name, texts, orElse, captionOf, caption}
+use Rattle.attribution_reading.specs.Reads.{FieldAt, IdAt}
 use Rattle.attribution_reading.specs.declared.facts.Fields.{Fields}
-use Rattle.attribution_reading.specs.declared.facts.Ends.{Ends}
+use Rattle.attribution_reading.specs.declared.facts.IdPlace.{IdPlace}
 use Rattle.attribution_losses.specs.Lists.{Told}
 use Rattle.attribution_losses.proofs.Losing.{empty-is}
 use Rattle.attribution_reading.specs.Places.{bytes}
 use Rattle.attribution_losses.specs.Captions.{gap, named, nameTexts}
 use Rattle.attribution.proofs.TextLaws.{written-append, written-first}
 use Rattle.attribution_reading.proofs.Fielding.{length-bytes}
-use Rattle.attribution_reading.proofs.Texts.{kept-short}
 
 pub written-none : written [] ≡ []
 unfolding written cellsFrom
@@ -226,7 +225,7 @@ day-empty d [] p = absurd (true≢false (sym p))
 day-empty [] (b ∷ t) p = refl
 day-empty (a ∷ d) (b ∷ t) p = refl
 
-module _ (s : List ℕ) (f : Fields) (day : Bool) (e : Ends) (t : Told s f day e) where
+module _ (s : List ℕ) (f : Fields) (day : Bool) (t : Told s f day) (e : IdPlace) (d : IdAt s e) where
   abbrev dateShown : List ℕ
   dateShown = within (ascii "(") (date (parts 0 s)) (ascii ")")
 
@@ -246,37 +245,27 @@ module _ (s : List ℕ) (f : Fields) (day : Bool) (e : Ends) (t : Told s f day e
 
   pub id-is : ltb 0 (e .size) ≡ not (isEmpty idShown)
   id-is =
-      let n = length-bytes s (e .from) (e .size) (t .ends .inside) in
-      some-is (id (parts 0 s)) (e .size) (sym (ap length (t .ends .id)) ∙ n) ∙ ap not (sym (within-empty 35 [] (id (parts 0 s)) []))
+      let n = length-bytes s (e .from) (e .size) (d .inside) in
+      some-is (id (parts 0 s)) (e .size) (sym (ap length (d .words)) ∙ n) ∙ ap not (sym (within-empty 35 [] (id (parts 0 s)) []))
 
   pub more-is : (d r : Bool) → d ≡ not (eqb (f .date .size) 0 && eqb (f .time .size) 0) → r ≡ (d || ltb 0 (e .size)) → r ≡ not (isEmpty (spaced dateShown idShown))
   more-is d r p q = q ∙ rw (dated-is d p, id-is) (sym (ap not (spaced-empty dateShown idShown) ∙ not-and (isEmpty dateShown) (isEmpty idShown)))
 
   pub id-shown : written (within (ascii "#") (bytes s (e .from) (e .size)) []) ≡ written idShown
-  id-shown = ap (λ (x : List ℕ). written (within (ascii "#") x [])) (t .ends .id)
+  id-shown = ap (λ (x : List ℕ). written (within (ascii "#") x [])) (d .words)
 
   -- ---- the name
 
   module _ (joined : List ℕ) (j : joined ≡ nameTexts s) where
-    pub kept-within : f .name .size ≡ 0 → e .kept ≤ length joined
-    unfolding nameTexts kept
-    kept-within z =
-        let y : isEmpty (fieldOf Name (parts 0 s)) ≡ true = sym (empty-is s Name (f .name) (t .fields .name)) ∙ rw z in
-        let v : joined ≡ texts (parts 0 s) = j ∙ rw y in
-        let q : length joined ≡ length (texts (parts 0 s)) = ap length v in
-        let k = t .ends .kept in
-        let w = kept-short (parts 0 s) in
-        omega (arith, q, k, w)
-
-    pub name-is : named s joined (f .name .from) (f .name .size) (e .kept) ≡ name (parts 0 s)
+    name-is : named s joined (f .name .from) (f .name .size) ≡ name (parts 0 s)
     unfolding named name nameTexts bytes
     name-is = by (fieldOf Name (parts 0 s)) refl
       where
-        by : (x : List ℕ) → fieldOf Name (parts 0 s) ≡ x → cond (eqb (f .name .size) 0) (take (e .kept) joined) (take (f .name .size) (drop (f .name .from) s)) ≡ orElse (fieldOf Name (parts 0 s)) (take (kept (parts 0 s)) (texts (parts 0 s)))
-        by [] p = rw (empty-is s Name (f .name) (t .fields .name), p, j, p, t .ends .kept)
+        by : (x : List ℕ) → fieldOf Name (parts 0 s) ≡ x → cond (eqb (f .name .size) 0) joined (take (f .name .size) (drop (f .name .from) s)) ≡ orElse (fieldOf Name (parts 0 s)) (texts (parts 0 s))
+        by [] p = rw (empty-is s Name (f .name) (t .fields .name), p, j, p)
         by (b ∷ x) p = rw (empty-is s Name (f .name) (t .fields .name), p) (t .fields .name .words ∙ p)
 
-    pub caption-is : (w : List ℕ) (d r : Bool) → w ≡ named s joined (f .name .from) (f .name .size) (e .kept) → d ≡ not (eqb (f .date .size) 0 && eqb (f .time .size) 0) → r ≡ (d || ltb 0 (e .size))
+    pub caption-is : (w : List ℕ) (d r : Bool) → w ≡ named s joined (f .name .from) (f .name .size) → d ≡ not (eqb (f .date .size) 0 && eqb (f .time .size) 0) → r ≡ (d || ltb 0 (e .size))
         → (written w ++ written (gap (ltb 0 (length w)) r)) ++ written (spaced dateShown idShown) ≡ written (caption s)
     unfolding caption captionOf
     caption-is w d r p q h =

@@ -10,7 +10,6 @@ use lib.Dec.{ltb}
 use lib.ListN.{length, take, replicate, length-map, length-replicate, replicate-append-replicate}
 use lib.Seq.{take-take}
 use borrow.Author.Tests.{lt-ltb, le-ltb}
-use Rattle.text.specs.Bounds.{textMost}
 use Rattle.text.specs.Cells.{Cell, cells, cellsFrom, moreAfter, part, written, bytes as textOf, origins as originsOf}
 use Rattle.text.specs.Writes.{AppendsIn, LaidOut, cleared, padded}
 use Rattle.lending.specs.Lent.{checked}
@@ -86,11 +85,11 @@ module _ (s : List ℕ) {work₁ work₂ : List ℕ} {end past : ℕ} (source : 
   said-is : said words work₂ ≡ s
   said-is = ap (λ (k : ℕ). take k work₂) (sub-zero (length s)) ∙ in-front
 
-  pub words-spoken : past ≤ length work₂ → length s ≤ textMost → Spoken work₂ (length s) end words
-  words-spoken h small =
+  pub words-spoken : past ≤ length work₂ → Spoken work₂ (length s) end words
+  words-spoken h =
       let z = j .size in
       let p = past-is in
-      spoken-there 0 (length s) past (omega arith) (omega arith) far (omega (arith, p)) h (omega (arith, small)) (joined-there j most (omega (arith, z, h)) ∙ source-texts ∙ ap nameTexts (sym said-is))
+      spoken-there 0 (length s) past (omega arith) (omega arith) far (omega (arith, p)) h (joined-there j most (omega (arith, z, h)) ∙ source-texts ∙ ap nameTexts (sym said-is))
 
   -- where the joined texts do not fit, the caption does not
   pub not-fitting : (m : ℕ) (ns : List ℕ) → end ≡ length s + m → length s + 3 * m ≤ length work₁ → length work₂ < past → Captioned s m work₂ ns past

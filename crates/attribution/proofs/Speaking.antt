@@ -41,7 +41,6 @@ module _ {s ns s' ns' : List ℕ} {at at' end : ℕ} {t : List Cell} {w : Words}
   spoken-on size = record {
     order = h .order;
     inside = omega (arith, h .inside, size);
-    small = h .small;
     apart = apart-on (h .apart) (p .appends .grows);
     joined-order = h .joined-order;
     joined-inside = omega (arith, h .joined-inside, size);
@@ -70,22 +69,22 @@ module _ (s : List ℕ) (w : Words) {at end : ℕ} (h : Spoken s at end w) where
 
 -- ---- the name
 
-module _ (s : List ℕ) (w : Words) (from size kept : ℕ) {x : List ℕ} (e : x ≡ named (said w s) (cut (w .joined .0) (w .past .0) s) from size kept) where
-  pub name-joined : size ≡ 0 → w .joined .0 ≤ w .past .0 → w .past .0 ≤ length s → kept ≤ w .past .0 - w .joined .0 → NameAt s w from size kept (w .joined .0) (w .joined .0 + length x)
+module _ (s : List ℕ) (w : Words) (from size : ℕ) {x : List ℕ} (e : x ≡ named (said w s) (cut (w .joined .0) (w .past .0) s) from size) where
+  pub name-joined : size ≡ 0 → w .joined .0 ≤ w .past .0 → w .past .0 ≤ length s → NameAt s w from size (w .joined .0) (w .joined .0 + length x)
   unfolding named
-  name-joined z h k le =
+  name-joined z h k =
       let j : ℕ = w .joined .0 in
-      let l = cut-length j (w .past .0) s k in
-      let v : x ≡ take kept (cut j (w .past .0) s) = e ∙ rw (eq-eqb size 0 z) in
-      let n : length x ≡ kept = ap length v ∙ length-take-le kept (cut j (w .past .0) s) (omega (arith, l, le)) in
+      let v : x ≡ cut j (w .past .0) s = e ∙ rw (eq-eqb size 0 z) in
+      let n : length x ≡ w .past .0 - j = ap length v ∙ cut-length j (w .past .0) s k in
+      let m : j + length x ≡ w .past .0 = omega (arith, n, h) in
       record {
-        words = ap (λ (m : ℕ). take (j + m - j) (drop j s)) n ∙ ap (λ (m : ℕ). take m (drop j s)) (add-sub-cancel-left j kept) ∙ sym (take-take kept (w .past .0 - j) (drop j s) le) ∙ sym v ∙ e;
+        words = ap (λ (i : ℕ). cut j i s) m ∙ sym v ∙ e;
         order = omega arith;
-        inside = omega (arith, n, le, h, k);
-        apart = λ at end f g. apart-in j (j + length x) (omega arith) (omega (arith, n, le, h)) g;
+        inside = omega (arith, m, k);
+        apart = λ at end f g. apart-in j (j + length x) (omega arith) (omega (arith, m)) g;
       }
 
-  pub name-field : (size ≡ 0 → ⊥) → w .from .0 ≤ w .to .0 → w .to .0 ≤ length s → from + size ≤ w .to .0 - w .from .0 → NameAt s w from size kept (w .from .0 + from) (w .from .0 + from + length x)
+  pub name-field : (size ≡ 0 → ⊥) → w .from .0 ≤ w .to .0 → w .to .0 ≤ length s → from + size ≤ w .to .0 - w .from .0 → NameAt s w from size (w .from .0 + from) (w .from .0 + from + length x)
   unfolding named
   name-field z h k le =
       let a : ℕ = w .from .0 in
@@ -112,12 +111,10 @@ joined-there {v} {v'} {end} {j} {t} p he fit =
     sym (drop-at (take end v') (take (j - end) (drop end v')) end l') ∙ ap (drop end) q ∙ drop-at (take end v) t end l
 
 -- the attribution stands before the area from `at` up to `end`, the joined texts behind it
-pub spoken-there : {v : List ℕ} {at end : ℕ} (a b j : ℕ) → a ≤ b → b ≤ at → at ≤ end → end ≤ j → j ≤ length v → b ≤ 1073741824
-    → cut end j v ≡ nameTexts (cut a b v) → Spoken v at end (record { from = record { 0 = a }; to = record { 0 = b }; joined = record { 0 = end }; past = record { 0 = j } })
-spoken-there a b j h k l m n small e = record {
+pub spoken-there : {v : List ℕ} {at end : ℕ} (a b j : ℕ) → a ≤ b → b ≤ at → at ≤ end → end ≤ j → j ≤ length v → cut end j v ≡ nameTexts (cut a b v) → Spoken v at end (record { from = record { 0 = a }; to = record { 0 = b }; joined = record { 0 = end }; past = record { 0 = j } })
+spoken-there a b j h k l m n e = record {
   order = h;
   inside = omega arith;
-  small = omega arith;
   apart = apart-before k;
   joined-order = m;
   joined-inside = n;

@@ -4,7 +4,7 @@
 --   NameAt s w .. i j     the name stands in s from i up to j, in one of the two places of w
 -- Assumes nothing.
 use mathlib.Core.Path.{_≡_}
-use Prim.Native.Nat.{ℕ, _+_, _-_, _≤_}
+use Prim.Native.Nat.{ℕ, _-_, _≤_}
 use mathlib.Core.List.{List, []}
 use lib.ListN.{length}
 use Rattle.text.specs.Ascii.{ascii}
@@ -25,15 +25,14 @@ dateAndId ps = spaced (within (ascii "(") (date ps) (ascii ")")) (within (ascii 
 pub record Spoken (s : List ℕ) (at end : ℕ) (w : Words) : Type 0 where
   pub order : w .from .0 ≤ w .to .0
   pub inside : w .to .0 ≤ length s
-  pub small : w .to .0 ≤ w .from .0 + 1073741824
   pub apart : Apart (w .from .0) (w .to .0) at end
   pub joined-order : w .joined .0 ≤ w .past .0
   pub joined-inside : w .past .0 ≤ length s
   pub joined-apart : Apart (w .joined .0) (w .past .0) at end
   pub joins : cut (w .joined .0) (w .past .0) s ≡ nameTexts (said w s)
 
-pub record NameAt (s : List ℕ) (w : Words) (from size kept i j : ℕ) : Type 0 where
-  pub words : cut i j s ≡ named (said w s) (cut (w .joined .0) (w .past .0) s) from size kept
+pub record NameAt (s : List ℕ) (w : Words) (from size i j : ℕ) : Type 0 where
+  pub words : cut i j s ≡ named (said w s) (cut (w .joined .0) (w .past .0) s) from size
   pub order : i ≤ j
   pub inside : j ≤ length s
   pub apart : (at end : ℕ) → Apart (w .from .0) (w .to .0) at end → Apart (w .joined .0) (w .past .0) at end → Apart i j at end

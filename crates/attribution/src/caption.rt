@@ -1,9 +1,9 @@
 // The caption of an attribution: name, date and id. The attribution stands in the pair of slices that the caption is written into, with its joined
 // texts; both before or behind the area from a place up to `end`.
 use attribution_losses::loss::is_day;
-use attribution_reading::facts::Ends;
 use attribution_reading::facts::Field;
 use attribution_reading::facts::Fields;
+use attribution_reading::facts::IdPlace;
 use attribution_reading::facts::read_facts;
 use day::write_day;
 use text::WorkAt;
@@ -26,7 +26,7 @@ ghost use Rattle.attribution_parts.specs.declared.Kind.the-variants.{Date, Time
 ghost use Rattle.attribution_parts.specs.Parts.{parts};
 ghost use Rattle.attribution_parts.specs.Attribution.{isDay, within, caption, date as dateOf};
 ghost use Rattle.attribution_reading.specs.Places.{bytes};
-ghost use Rattle.attribution_reading.specs.Reads.{FieldAt};
+ghost use Rattle.attribution_reading.specs.Reads.{FieldAt, IdAt};
 ghost use Rattle.attribution_losses.specs.Captions.{named, gap};
 ghost use Rattle.attribution_losses.specs.Lists.{Told};
 ghost use Rattle.attribution.specs.Spoken.{said, dateAndId, Spoken, NameAt};
@@ -45,34 +45,28 @@ struct NamePlace {
     to: WorkAt,
 }
 
-// The name: where there is a name field its value, a part of the attribution; else what is kept of the joined texts.
-fn name<'a>(
-    attribution: &'a [u8],
-    joined: &'a [u8],
-    from: usize,
-    size: usize,
-    kept: usize,
-) -> &'a [u8]
-    requires { ⌜ (from + size ≤ length (now attribution)) × (size ≡ 0 → kept ≤ length (now joined)) ⌝ }
-    ensures { λ r. ⌜ now r ≡ named (now (attribution .entry)) (now (joined .entry)) from size kept ⌝ }
+// The name: where there is a name field its value, a part of the attribution; else the joined texts.
+fn name<'a>(attribution: &'a [u8], joined: &'a [u8], from: usize, size: usize) -> &'a [u8]
+    requires { ⌜ from + size ≤ length (now attribution) ⌝ }
+    ensures { λ r. ⌜ now r ≡ named (now (attribution .entry)) (now (joined .entry)) from size ⌝ }
 {
     if size == 0 {
-        return &joined[..kept];
+        return joined;
     }
     let end = from + size;
     &attribution[from..end]
 }
 
 // Where the name stands: as long as the part that `name` hands out, which can't be held while the slice is written.
-fn name_at(work: &[u8], w: Words, from: usize, size: usize, kept: usize) -> NamePlace
-    requires { ⌜ ((w .from .0 ≤ w .to .0) × ((w .to .0 ≤ length (now work)) × ((w .joined .0 ≤ w .past .0) × (w .past .0 ≤ length (now work))))) × ((from + size ≤ w .to .0 - w .from .0) × (size ≡ 0 → kept ≤ w .past .0 - w .joined .0)) ⌝ }
-    ensures { λ r. ⌜ NameAt (now (work .entry)) w from size kept (r .from .0) (r .to .0) ⌝ }
+fn name_at(work: &[u8], w: Words, from: usize, size: usize) -> NamePlace
+    requires { ⌜ ((w .from .0 ≤ w .to .0) × ((w .to .0 ≤ length (now work)) × ((w .joined .0 ≤ w .past .0) × (w .past .0 ≤ length (now work))))) × (from + size ≤ w .to .0 - w .from .0) ⌝ }
+    ensures { λ r. ⌜ NameAt (now (work .entry)) w from size (r .from .0) (r .to .0) ⌝ }
 {
     let a = w.from.0;
     let b = w.to.0;
     let j = w.joined.0;
     let k = w.past.0;
-    let words = name(&work[a..b], &work[j..k], from, size, kept);
+    let words = name(&work[a..b], &work[j..k], from, size);
     let n = words.len();
     if size == 0 {
         return NamePlace {
@@ -272,17 +266,17 @@ fn put_rest(
     w: Words,
     fields: Fields,
     day: bool,
-    ends: Ends,
+    id: IdPlace,
     end: usize,
     at: WorkAt,
 ) -> WorkAt
-    requires { ⌜ (Spoken (now work) (at .0) end w × Told (said w (now work)) fields day ends) × ((end ≤ length (now work)) × (end ≤ length (now numbers))) ⌝ }
+    requires { ⌜ (Spoken (now work) (at .0) end w × (Told (said w (now work)) fields day × IdAt (said w (now work)) id)) × ((end ≤ length (now work)) × (end ≤ length (now numbers))) ⌝ }
     ensures { λ r. ⌜ AppendsIn (now (work .entry)) (now (numbers .entry)) end (at .0) (now (work .exit)) (now (numbers .exit)) (r .0) (written (dateAndId (parts 0 (said w (now (work .entry)))))) ⌝ }
 {
     let a = put_date(work, numbers, w, fields.date, fields.time, day, end, at);
     let dated = is_dated(fields.date, fields.time);
-    let b = put_gap(dated, 0 < ends.size, work, numbers, end, a);
-    put_id(work, numbers, w, ends.from, ends.size, end, b)
+    let b = put_gap(dated, 0 < id.size, work, numbers, end, a);
+    put_id(work, numbers, w, id.from, id.size, end, b)
 }
 
 fn put_pieces(
@@ -291,22 +285,22 @@ fn put_pieces(
     w: Words,
     fields: Fields,
     day: bool,
-    ends: Ends,
+    id: IdPlace,
     end: usize,
     at: WorkAt,
 ) -> WorkAt
-    requires { ⌜ (Spoken (now work) (at .0) end w × Told (said w (now work)) fields day ends) × ((end ≤ length (now work)) × (end ≤ length (now numbers))) ⌝ }
+    requires { ⌜ (Spoken (now work) (at .0) end w × (Told (said w (now work)) fields day × IdAt (said w (now work)) id)) × ((end ≤ length (now work)) × (end ≤ length (now numbers))) ⌝ }
     ensures { λ r. ⌜ AppendsIn (now (work .entry)) (now (numbers .entry)) end (at .0) (now (work .exit)) (now (numbers .exit)) (r .0) (written (caption (said w (now (work .entry))))) ⌝ }
 {
     let f = fields.name;
-    let more = has_more(is_dated(fields.date, fields.time), ends.size);
-    let words = name_at(&work[..], w, f.from, f.size, ends.kept);
+    let more = has_more(is_dated(fields.date, fields.time), id.size);
+    let words = name_at(&work[..], w, f.from, f.size);
     let i = words.from.0;
     let j = words.to.0;
     let n = j - i;
     let a = put_within(work, numbers, i, j, end, at);
     let b = put_gap(0 < n, more, work, numbers, end, a);
-    put_rest(work, numbers, w, fields, day, ends, end, b)
+    put_rest(work, numbers, w, fields, day, id, end, b)
 }
 
 // Appends the caption of an attribution.
@@ -319,7 +313,6 @@ pub fn put_caption(work: &mut [u8], numbers: &mut [u32], w: Words, end: usize, a
     let memory = &work[..];
     let facts = read_facts(&memory[a..b]);
     let fields = facts.fields;
-    let ends = facts.ends;
     let day = is_day(&memory[a..b], fields.time);
-    put_pieces(work, numbers, w, fields, day, ends, end, at)
+    put_pieces(work, numbers, w, fields, day, facts.id, end, at)
 }

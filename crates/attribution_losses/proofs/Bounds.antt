@@ -9,7 +9,7 @@ use lib.ListN.{length, take, drop, getD, length-append}
 use lib.Dec.{eqb}
 use Rattle.text.specs.Ascii.{ascii, isEmpty, toFirst}
 use Rattle.attribution_parts.specs.Parts.{Part, field, text, isSpace, inQuotes, value, valueSize, keySize, readAt, partAt, sizeAt, partSize, here, more, parts}
-use Rattle.attribution_parts.specs.Attribution.{Loss, lossOf, cutIf, cutLast, runWords, textsOf, isUsed, unnamed, lossAt, lossesFrom, passedOver, lossesOf, losses, leading, leadingId, suffix, fieldOf}
+use Rattle.attribution_parts.specs.Attribution.{Loss, lossOf, runWords, isUsed, unnamed, lossAt, lossesFrom, passedOver, lossesOf, losses, leading, leadingId, fieldOf}
 use Rattle.attribution_parts.specs.declared.Kind.the-variants.{Name, PostId, Id}
 use Rattle.attribution_losses.specs.Lists.{lossWords}
 
@@ -114,19 +114,6 @@ from-small all i false (text w false ∷ ps) =
 
 -- ---- the parts that are left
 
--- a part that may be cut
-cut-if : (last : Bool) (n : ℕ) (p : Part) → weight (cutIf last n p) ≤ weight p
-cut-if true n (field key v) = omega arith
-cut-if false n (field key v) = omega arith
-cut-if false n (text w quoted) = omega arith
-cut-if true n (text w quoted) = omega (arith, take-short (length w - n) w .1)
-
--- parts whose last text is cut
-cut-last : (n : ℕ) (ps : List Part) → (length (cutLast n ps) ≤ length ps) × (weights (cutLast n ps) ≤ weights ps)
-unfolding cutLast weights
-cut-last n [] = (omega arith, omega arith)
-cut-last n (p ∷ ps) = let h = cut-last n ps in (omega (arith, h .0), omega (arith, h .1, cut-if (isEmpty (textsOf ps)) n p))
-
 -- the parts behind the first n
 drop-weights : (n : ℕ) (ps : List Part) → weights (drop n ps) ≤ weights ps
 unfolding weights
@@ -138,16 +125,14 @@ drop-weights (suc n) (p ∷ ps) = omega (arith, drop-weights n ps)
 losses-of : (ps : List Part) → Small (lossesOf ps) (suc (length ps)) (2 + weights ps)
 unfolding lossesOf passedOver
 losses-of ps =
-    let n = length (suffix ps) in
     let rest = drop (leading ps) ps in
-    let c = cut-last n rest in
-    let f = from-small ps (leading ps) false (cutLast n rest) in
+    let f = from-small ps (leading ps) false rest in
     let d = drop-short (leading ps) ps in
     let e = drop-weights (leading ps) ps in
-    let r : Small (lossesFrom ps (leading ps) false (cutLast n rest)) (length (cutLast n rest)) (weights (cutLast n rest)) = record { few = f .0; short = omega (arith, f .1) } in
-    append-small (passedOver ps) (lossesFrom ps (leading ps) false (cutLast n rest))
+    let r : Small (lossesFrom ps (leading ps) false rest) (length rest) (weights rest) = record { few = f .0; short = omega (arith, f .1) } in
+    append-small (passedOver ps) (lossesFrom ps (leading ps) false rest)
     (cond-small (isEmpty (leadingId ps) || (isEmpty (fieldOf PostId ps) && isEmpty (fieldOf Id ps))) (lossOf false (ascii "id")) 1 2 (lossOf-small false (ascii "id")))
-    r (omega (arith, c .0, d)) (omega (arith, c .1, e))
+    r (omega (arith, d)) (omega (arith, e))
 
 -- ---- the parts of an attribution
 

@@ -16,13 +16,13 @@ use Rattle.attribution_reading.specs.declared.facts.Field.{Field}
 use Rattle.attribution_reading.specs.declared.facts.Lead.{Lead}
 use Rattle.attribution_parts.specs.Parts.{Part, parts}
 use Rattle.attribution_parts.specs.Attribution.{spaced, joined, wordsOf, textsOf, texts, leading, fieldOf, counts}
-use Rattle.attribution_reading.specs.Places.{bytes, partOf, Stands, Scanned}
-use Rattle.attribution_reading.specs.Reads.{FieldAt, LeadAt}
+use Rattle.attribution_reading.specs.Places.{bytes, partOf, partWith, Stands, Scanned}
+use Rattle.attribution_reading.specs.Reads.{FieldAt, Found, LeadAt}
 use Rattle.attribution_losses.specs.Captions.{added, nameTexts}
 use Rattle.attribution_losses.specs.Lists.{Puts}
 use Rattle.attribution_reading.proofs.Laws.{scan-on}
-use Rattle.attribution_reading.proofs.Fielding.{length-bytes, counts-sized, Found, nothing, found-lead, found-passed, found-here, found-all}
-use Rattle.attribution_reading.proofs.Texts.{texts-more, words-text, words-field, drop-take}
+use Rattle.attribution_reading.proofs.Fielding.{length-bytes, counts-sized, nothing, found-lead, found-passed, found-here, found-all}
+use Rattle.text.proofs.Areas.{drop-take}
 use Rattle.attribution_losses.proofs.Listing.{puts-none, puts-then, puts-as}
 use Rattle.attribution_losses.proofs.Losing.{empty-is}
 
@@ -45,6 +45,21 @@ unfolding bytes
 bytes-bytes v a n f z le = ap (take z) (drop-take f n (drop a v)) ∙ take-take z (n - f) (drop f (drop a v)) (omega arith) ∙ ap (take z) (drop-drop f a v)
 
 -- ---- one text more
+
+spaced-assoc : (x y z : List ℕ) → spaced (spaced x y) z ≡ spaced x (spaced y z)
+spaced-assoc [] y z = refl
+spaced-assoc (a ∷ x) [] z = refl
+spaced-assoc (a ∷ x) (b ∷ y) [] = refl
+spaced-assoc (a ∷ x) (b ∷ y) (c ∷ z) = append-assoc (a ∷ x) (32 ∷ b ∷ y) (32 ∷ c ∷ z)
+
+spaced-nil : (x : List ℕ) → spaced x [] ≡ x
+spaced-nil [] = refl
+spaced-nil (a ∷ x) = refl
+
+texts-more : (xs : List Part) (q : Part) → textsOf (xs ++ (q ∷ [])) ≡ spaced (textsOf xs) (wordsOf q)
+unfolding textsOf joined
+texts-more [] q = spaced-nil (wordsOf q)
+texts-more (x ∷ xs) q = ap (spaced (wordsOf x)) (texts-more xs q) ∙ sym (spaced-assoc (wordsOf x) (textsOf xs) (wordsOf q))
 
 spaced-added : (x w : List ℕ) (some : Bool) → some ≡ not (isEmpty x) → spaced x w ≡ x ++ added some w
 unfolding added
@@ -115,11 +130,12 @@ join-start v a n at l h = record {
 }
 
 words-by : (s : List ℕ) (p : Place) → wordsOf (partOf s p) ≡ cond (eqb (p .keylen) 0) (bytes s (p .from) (p .size)) []
-words-by s p = by (p .keylen) refl
+unfolding partOf
+words-by s p = by (p .keylen)
   where
-    by : (k : ℕ) → p .keylen ≡ k → wordsOf (partOf s p) ≡ cond (eqb k 0) (bytes s (p .from) (p .size)) []
-    by zero e = words-text s p e
-    by (suc k) e = words-field s p (λ z. (let y : suc k ≡ 0 = sym e ∙ z in omega arith)) ∙ sym (ap (λ (t : Bool). cond t (bytes s (p .from) (p .size)) []) (ne-eqb (suc k) 0 (λ (z : suc k ≡ 0). omega arith)))
+    by : (k : ℕ) → wordsOf (partWith k s p) ≡ cond (eqb k 0) (bytes s (p .from) (p .size)) []
+    by zero = refl
+    by (suc k) = sym (ap (λ (t : Bool). cond t (bytes s (p .from) (p .size)) []) (ne-eqb (suc k) 0 (λ (z : suc k ≡ 0). omega arith)))
 
 added-len : (some : Bool) (w : List ℕ) → length (added some w) ≤ 1 + length w
 unfolding added

@@ -6,10 +6,8 @@ use Prim.Native.Nat.{ℕ, zero, suc, _+_, _-_, _*_, _≤_, _<_}
 use native.Mathlib.Nat.{add-sub-cancel-left}
 use native.Mathlib.Numerals.{add-one}
 use native.Mathlib.Omega.{arith}
-use native.Mathlib.Decide.{decLe, ℕ-discrete}
 use lib.Dec.{eqb, ltb}
 use lib.ListN.{length, take, drop, drop-of-length-le, length-drop}
-use lib.Seq.{take-take, drop-drop, take-nil}
 use borrow.Author.Tests.{eq-eqb, ne-eqb}
 use Rattle.text.specs.Ascii.{ascii, is, isEmpty, toFirst}
 use Rattle.day.specs.Day.{isSeconds}
@@ -18,45 +16,18 @@ use Rattle.attribution_parts.specs.declared.Kind.{Kind}
 use Rattle.attribution_parts.specs.declared.Kind.the-variants.{Name, PostId, Id, Time}
 use Rattle.attribution_reading.specs.declared.facts.Field.{Field}
 use Rattle.attribution_reading.specs.declared.facts.Fields.{Fields}
-use Rattle.attribution_reading.specs.declared.facts.Ends.{Ends}
 use Rattle.attribution_reading.specs.declared.facts.Lead.{Lead}
 use Rattle.attribution_losses.specs.declared.loss.Counts.{Counts}
 use Rattle.attribution_losses.specs.declared.loss.Group.{Group}
 use Rattle.attribution_parts.specs.Parts.{Part, field, text, parts}
-use Rattle.attribution_parts.specs.Attribution.{isLeading, partNo, leading, leadingId, spaced, joined, textsOf, suffix, fieldOf, isDay, Loss, lossOf, cutIf, cutLast, runWords, isUsed, unnamed, lossAt, lossesFrom, passedOver, lossesOf, losses}
+use Rattle.attribution_parts.specs.Attribution.{isLeading, partNo, leading, leadingId, fieldOf, isDay, Loss, lossOf, runWords, isUsed, unnamed, lossAt, lossesFrom, passedOver, lossesOf, losses}
 use Rattle.attribution_reading.specs.Places.{bytes, partOf, partWith, Stands, Scanned}
-use Rattle.attribution_reading.specs.Reads.{FieldAt, FieldsAt, LeadAt, EndsAt}
-use Rattle.attribution_losses.specs.Lists.{Puts, flag, lossWords, recordOf, recordsOf, cutSize, usedBy, passedBy, passedLoss, lossesAt, runAt, Told, Here, Ran, Grouped, Lists, Listed}
+use Rattle.attribution_reading.specs.Reads.{FieldAt, FieldsAt, LeadAt}
+use Rattle.attribution_losses.specs.Lists.{Puts, flag, lossWords, recordOf, recordsOf, usedBy, passedBy, passedLoss, lossesAt, runAt, Told, Here, Ran, Grouped, Lists, Listed}
 use Rattle.attribution_reading.proofs.Laws.{scan-on}
 use Rattle.attribution_reading.proofs.Fielding.{length-bytes}
 use Rattle.attribution_reading.proofs.NoFields.{NoFields, no-part, a-text, no-fields, field-none}
 use Rattle.attribution_losses.proofs.Listing.{puts-none, puts-then, puts-as, lists-none, lists-then, lists-one, lists-as}
-
--- ---- parts behind a place
-
-joined-nil : (x y : List ℕ) → spaced x y ≡ [] → x ≡ []
-joined-nil [] y e = refl
-joined-nil (b ∷ x) [] e = e
-joined-nil (b ∷ x) (d ∷ y) e = absurd (cons-nil b (x ++ (32 ∷ d ∷ y)) e)
-  where
-    cons-nil : (a : ℕ) (l : List ℕ) → a ∷ l ≡ [] → ⊥
-    cons-nil a l p = let z : suc (length l) ≡ 0 = ap length p in omega arith
-
--- what is not empty stands behind part i, or not
-module _ (s : List ℕ) (e : Ends) (es : EndsAt s e) (i at : ℕ) (st : Stands s i at) (le : leading (parts 0 s) ≤ i) where
-  behind-none : e .end ≤ i → textsOf (parts 0 (drop at s)) ≡ []
-  behind-none h =
-      let j = i - leading (parts 0 s) in
-      let n : leading (parts 0 s) + j ≡ i = omega arith in
-      let d : drop j (drop (leading (parts 0 s)) (parts 0 s)) ≡ parts 0 (drop at s) = drop-drop j (leading (parts 0 s)) (parts 0 s) ∙ ap (λ (m : ℕ). drop m (parts 0 s)) n ∙ st .rest in
-      ap textsOf (sym d) ∙ es .behind j (omega arith)
-
-  behind-some : i < e .end → isEmpty (textsOf (parts 0 (drop at s))) ≡ false
-  behind-some h =
-      let j = i - leading (parts 0 s) in
-      let n : leading (parts 0 s) + j ≡ i = omega arith in
-      let d : drop j (drop (leading (parts 0 s)) (parts 0 s)) ≡ parts 0 (drop at s) = drop-drop j (leading (parts 0 s)) (parts 0 s) ∙ ap (λ (m : ℕ). drop m (parts 0 s)) n ∙ st .rest in
-      ap (λ (l : List Part). isEmpty (textsOf l)) (sym d) ∙ es .before j (omega arith)
 
 pub empty-is : (s : List ℕ) (k : Kind) (f : Field) → FieldAt s k f → eqb (f .size) 0 ≡ isEmpty (fieldOf k (parts 0 s))
 empty-is s k f h = by (fieldOf k (parts 0 s)) (f .size) (sym (ap length (h .words)) ∙ length-bytes s (f .from) (f .size) (h .inside))
@@ -76,7 +47,7 @@ pub empty-words : (x : List ℕ) (n : ℕ) → length x ≡ n → eqb n 0 ≡ is
 empty-words [] n e = rw (← e)
 empty-words (b ∷ x) n e = ne-eqb n 0 (λ (z : n ≡ 0). omega (arith, z, e))
 
--- ---- a part without a split
+-- ---- a part as the code sees it
 
 module _ (s : List ℕ) (p : Place) where
   pub as-field : (p .keylen ≡ 0 → ⊥) → partOf s p ≡ field (bytes s (p .key) (p .keylen)) (bytes s (p .from) (p .size))
@@ -99,75 +70,16 @@ module _ (s : List ℕ) (p : Place) where
   unfolding partOf
   text-either e = rw e
 
-module _ (s : List ℕ) (e : Ends) (es : EndsAt s e) (i at : ℕ) (p : Place) (st : Stands s i at) (le : leading (parts 0 s) ≤ i) (sc : Scanned s at p) where
-  abbrev cut : ℕ
-  cut = length (suffix (parts 0 s))
-
+module _ (s : List ℕ) (i at : ℕ) (p : Place) (st : Stands s i at) (sc : Scanned s at p) where
   abbrev rest : List Part
   rest = parts 0 (drop (p .next) s)
 
-  abbrev size : ℕ
-  size = cutSize (p .size) i (e .end) (e .cut)
-
-  cut-field : (p .keylen ≡ 0 → ⊥) → cutLast cut (parts 0 (drop at s)) ≡ field (bytes s (p .key) (p .keylen)) (bytes s (p .from) (p .size)) ∷ cutLast cut rest
-  unfolding cutLast
-  cut-field n = rw (sc .part, as-field s p n)
-
-  texts-here : (quoted : Bool) → partOf s p ≡ text (bytes s (p .from) (p .size)) quoted → textsOf (parts 0 (drop at s)) ≡ spaced (bytes s (p .from) (p .size)) (textsOf rest)
-  unfolding textsOf joined
-  texts-here quoted w = rw (sc .part, w)
-
-  size-last : i + 1 ≡ e .end → size ≡ p .size - cut
-  unfolding cutSize
-  size-last q = rw (eq-eqb (i + 1) (e .end) q, es .cut)
-
-  size-other : (i + 1 ≡ e .end → ⊥) → size ≡ p .size
-  unfolding cutSize
-  size-other q = rw (ne-eqb (i + 1) (e .end) q)
-
-  pub size-within : size ≤ p .size
-  unfolding cutSize
-  size-within = by (eqb (i + 1) (e .end))
-    where
-      by : (b : Bool) → cond b (p .size - e .cut) (p .size) ≤ p .size
-      by true = omega arith
-      by false = omega arith
-
-  bytes-short : (a m k : ℕ) → k ≤ m → take k (bytes s a m) ≡ bytes s a k
-  unfolding bytes
-  bytes-short a m k h = take-take k m (drop a s) h
-
-  cut-text : (quoted : Bool) → partOf s p ≡ text (bytes s (p .from) (p .size)) quoted → cutLast cut (parts 0 (drop at s)) ≡ text (bytes s (p .from) size) quoted ∷ cutLast cut rest
-  unfolding cutLast
-  cut-text quoted w = rw (sc .part, w) (ap (λ (x : Part). x ∷ cutLast cut rest) (elim (ℕ-discrete (i + 1) (e .end)) [ yes q ↦ last q | no q ↦ other q ]))
-    where
-      on : Stands s (i + 1) (p .next)
-      on = scan-on s i at p st sc
-
-      n : length (bytes s (p .from) (p .size)) ≡ p .size
-      n = length-bytes s (p .from) (p .size) (omega (arith, sc .ends, sc .inside))
-
-      last : i + 1 ≡ e .end → cutIf (isEmpty (textsOf rest)) cut (text (bytes s (p .from) (p .size)) quoted) ≡ text (bytes s (p .from) size) quoted
-      last q =
-          let t : textsOf rest ≡ [] = behind-none s e es (i + 1) (p .next) on (omega arith) (omega arith) in
-          let z : size ≡ p .size - cut = size-last q in
-          rw (t, n, z) (ap (λ (x : List ℕ). text x quoted) (bytes-short (p .from) (p .size) (p .size - cut) (omega arith)))
-
-      other : (i + 1 ≡ e .end → ⊥) → cutIf (isEmpty (textsOf rest)) cut (text (bytes s (p .from) (p .size)) quoted) ≡ text (bytes s (p .from) size) quoted
-      other q = elim (decLe (e .end) i) [
-        | yes h ↦
-            (let t : textsOf rest ≡ [] = behind-none s e es (i + 1) (p .next) on (omega arith) (omega arith) in
-            let v : bytes s (p .from) (p .size) ≡ [] = empty-here h in
-            rw (size-other q, t, v) (ap (λ (x : List ℕ). text x quoted) (take-nil (length {A = ℕ} [] - cut))))
-        | no h ↦ rw (size-other q, behind-some s e es (i + 1) (p .next) on (omega arith) (omega arith))
-      ]
-        where
-          empty-here : e .end ≤ i → bytes s (p .from) (p .size) ≡ []
-          empty-here h = joined-nil (bytes s (p .from) (p .size)) (textsOf rest) (sym (texts-here quoted w) ∙ behind-none s e es i at st le h)
+  here-is : {q : Part} → partOf s p ≡ q → parts 0 (drop at s) ≡ q ∷ rest
+  here-is w = sc .part ∙ ap (λ (x : Part). x ∷ rest) w
 
   -- ---- what a part adds
 
-  module _ (f : Fields) (day : Bool) (t : Told s f day e) where
+  module _ (f : Fields) (day : Bool) (t : Told s f day) where
     index-in : i < length (parts 0 s)
     index-in =
         let n = length-drop i (parts 0 s) in
@@ -182,11 +94,11 @@ module _ (s : List ℕ) (e : Ends) (es : EndsAt s e) (i at : ℕ) (p : Place) (s
 
     pub used-field : (p .keylen ≡ 0 → ⊥) → usedBy f day i ≡ true → lossesAt s false i at ≡ lossesAt s false (i + 1) (p .next)
     unfolding lossesAt lossesFrom lossAt
-    used-field n u = rw (cut-field n, ← used-is, u, add-one)
+    used-field n u = rw (here-is (as-field s p n), ← used-is, u, add-one)
 
     pub lost-field : (p .keylen ≡ 0 → ⊥) → usedBy f day i ≡ false → lossesAt s false i at ≡ lossOf false (bytes s (p .key) (p .keylen)) ++ lossesAt s false (i + 1) (p .next)
     unfolding lossesAt lossesFrom lossAt
-    lost-field n u = rw (cut-field n, ← used-is, u, add-one)
+    lost-field n u = rw (here-is (as-field s p n), ← used-is, u, add-one)
 
     no-name : f .name .size ≡ 0 → isEmpty (fieldOf Name (parts 0 s)) ≡ true
     no-name z = sym (empty-is s Name (f .name) (t .fields .name)) ∙ rw z
@@ -196,34 +108,34 @@ module _ (s : List ℕ) (e : Ends) (es : EndsAt s e) (i at : ℕ) (p : Place) (s
 
     pub silent-text : (quoted : Bool) → partOf s p ≡ text (bytes s (p .from) (p .size)) quoted → f .name .size ≡ 0 → lossesAt s false i at ≡ lossesAt s false (i + 1) (p .next)
     unfolding lossesAt lossesFrom lossAt unnamed
-    silent-text true w z = rw (cut-text true w, no-name z, add-one)
-    silent-text false w z = rw (cut-text false w, no-name z, add-one) (same-run (parts 0 s) (suc i) (cutLast cut rest) (no-name z))
+    silent-text true w z = rw (here-is w, no-name z, add-one)
+    silent-text false w z = rw (here-is w, no-name z, add-one) (same-run (parts 0 s) (suc i) rest (no-name z))
 
-    pub lost-quoted : partOf s p ≡ text (bytes s (p .from) (p .size)) true → (f .name .size ≡ 0 → ⊥) → lossesAt s false i at ≡ lossOf true (bytes s (p .from) size) ++ lossesAt s false (i + 1) (p .next)
+    pub lost-quoted : partOf s p ≡ text (bytes s (p .from) (p .size)) true → (f .name .size ≡ 0 → ⊥) → lossesAt s false i at ≡ lossOf true (bytes s (p .from) (p .size)) ++ lossesAt s false (i + 1) (p .next)
     unfolding lossesAt lossesFrom lossAt unnamed
-    lost-quoted w z = rw (cut-text true w, a-name z, add-one)
+    lost-quoted w z = rw (here-is w, a-name z, add-one)
 
     pub lost-run : partOf s p ≡ text (bytes s (p .from) (p .size)) false → (f .name .size ≡ 0 → ⊥)
-        → lossesAt s false i at ≡ lossOf true (bytes s (p .from) size ++ runAt s (p .next)) ++ lossesAt s true (i + 1) (p .next)
+        → lossesAt s false i at ≡ lossOf true (bytes s (p .from) (p .size) ++ runAt s (p .next)) ++ lossesAt s true (i + 1) (p .next)
     unfolding lossesAt runAt lossesFrom lossAt unnamed
-    lost-run w z = rw (cut-text false w, a-name z, add-one)
+    lost-run w z = rw (here-is w, a-name z, add-one)
 
   -- in a run
   pub run-goes-on : partOf s p ≡ text (bytes s (p .from) (p .size)) false
-      → (lossesAt s true i at ≡ lossesAt s true (i + 1) (p .next)) × (runAt s at ≡ 32 ∷ bytes s (p .from) size ++ runAt s (p .next))
+      → (lossesAt s true i at ≡ lossesAt s true (i + 1) (p .next)) × (runAt s at ≡ 32 ∷ bytes s (p .from) (p .size) ++ runAt s (p .next))
   unfolding lossesAt runAt lossesFrom lossAt runWords
-  run-goes-on w = (rw (cut-text false w, add-one), rw (cut-text false w))
+  run-goes-on w = (rw (here-is w, add-one), rw (here-is w))
 
   pub run-ends-field : (p .keylen ≡ 0 → ⊥) → (lossesAt s true i at ≡ lossesAt s false i at) × (runAt s at ≡ [])
   unfolding lossesAt runAt lossesFrom lossAt runWords
-  run-ends-field n = (rw (cut-field n), rw (cut-field n))
+  run-ends-field n = (rw (here-is (as-field s p n)), rw (here-is (as-field s p n)))
 
   pub run-ends-quoted : partOf s p ≡ text (bytes s (p .from) (p .size)) true → (lossesAt s true i at ≡ lossesAt s false i at) × (runAt s at ≡ [])
   unfolding lossesAt runAt lossesFrom lossAt runWords
-  run-ends-quoted w = (rw (cut-text true w), rw (cut-text true w))
+  run-ends-quoted w = (rw (here-is w), rw (here-is w))
 
 pub run-ends : (s : List ℕ) (i at : ℕ) → length s ≤ at → (lossesAt s true i at ≡ lossesAt s false i at) × (runAt s at ≡ [])
-unfolding lossesAt runAt lossesFrom runWords cutLast parts
+unfolding lossesAt runAt lossesFrom runWords parts
 run-ends s i at le = (rw (drop-of-length-le s {i = at} le), rw (drop-of-length-le s {i = at} le))
 
 -- ---- the rest of a run, text by text
@@ -252,7 +164,7 @@ run-start s i at bs to h = record {
   small = omega arith;
 }
 
-module _ (s : List ℕ) (e : Ends) (es : EndsAt s e) (first start : ℕ) (bs : List ℕ) (before i at : ℕ) (bs' : List ℕ) (to : ℕ) (r : Running s first start bs before i at bs' to) where
+module _ (s : List ℕ) (first start : ℕ) (bs : List ℕ) (before i at : ℕ) (bs' : List ℕ) (to : ℕ) (r : Running s first start bs before i at bs' to) where
   pub run-done : (lossesAt s true i at ≡ lossesAt s false i at) × (runAt s at ≡ []) → Ran s first start bs before bs' (record { unnamed = 1; to = to; index = i; at = at })
   run-done h = record {
     puts = puts-as (sym (append-nil (r .past)) ∙ ap (λ (x : List ℕ). r .past ++ x) (sym (h .1)) ∙ r .words) (r .puts);
@@ -265,33 +177,28 @@ module _ (s : List ℕ) (e : Ends) (es : EndsAt s e) (first start : ℕ) (bs : L
     small = r .small;
   }
 
-  module _ (p : Place) (sc : Scanned s at p) (k : p .keylen ≡ 0) (q : p .from ≡ p .key) (z : ℕ) (ez : z ≡ cutSize (p .size) i (e .end) (e .cut)) where
-    pub run-room : (z ≤ p .size) × (p .size + at ≤ p .next)
-    run-room = let w = size-within s e es i at p (r .here .stands) (r .here .lead) sc in (omega (arith, w, ez), omega (arith, sc .starts, sc .ends))
-
-    pub run-turn : (bs₁ bs₂ : List ℕ) (a b : ℕ) → Puts bs' to bs₁ a (32 ∷ []) → Puts bs₁ a bs₂ b (bytes s (p .from) z) → Running s first start bs before (i + 1) (p .next) bs₂ b
+  module _ (p : Place) (sc : Scanned s at p) (k : p .keylen ≡ 0) (q : p .from ≡ p .key) where
+    pub run-turn : (bs₁ bs₂ : List ℕ) (a b : ℕ) → Puts bs' to bs₁ a (32 ∷ []) → Puts bs₁ a bs₂ b (bytes s (p .from) (p .size)) → Running s first start bs before (i + 1) (p .next) bs₂ b
     run-turn bs₁ bs₂ a b u v =
         let h = r .here in
-        let g = run-goes-on s e es i at p (h .stands) (h .lead) sc (as-run s p k q) in
-        let w = run-room in
-        let n = length-bytes s (p .from) z (omega (arith, w .0, sc .ends, sc .inside)) in
-        let t : b ≡ to + 1 + z = omega (arith, u .end, v .end, n) in
-        let y : 32 ∷ bytes s (p .from) z ++ runAt s (p .next) ≡ runAt s at = rw ez (sym (g .1)) in
+        let g = run-goes-on s i at p (h .stands) sc (as-run s p k q) in
+        let n = length-bytes s (p .from) (p .size) (omega (arith, sc .ends, sc .inside)) in
+        let w : p .size + at ≤ p .next = omega (arith, sc .starts, sc .ends) in
+        let t : b ≡ to + 1 + p .size = omega (arith, u .end, v .end, n) in
         record {
           here = record {
             stands = scan-on s i at p (h .stands) sc;
-            lead = omega (arith, h .lead);
             slow = omega (arith, h .slow, sc .grows);
-            room = omega (arith, t, h .room, w .0, w .1, sc .grows);
+            room = omega (arith, t, h .room, w, sc .grows);
           };
-          past = r .past ++ ((32 ∷ []) ++ bytes s (p .from) z);
+          past = r .past ++ ((32 ∷ []) ++ bytes s (p .from) (p .size));
           puts = puts-then (r .puts) (puts-then u v);
-          words = append-assoc (r .past) ((32 ∷ []) ++ bytes s (p .from) z) (runAt s (p .next)) ∙ ap (λ (x : List ℕ). r .past ++ x) y ∙ r .words;
+          words = append-assoc (r .past) ((32 ∷ []) ++ bytes s (p .from) (p .size)) (runAt s (p .next)) ∙ ap (λ (x : List ℕ). r .past ++ x) (sym (g .1)) ∙ r .words;
           rest = r .rest ∙ g .0;
           grows = omega (arith, r .grows, sc .grows);
           index = omega (arith, r .index);
           slow = omega (arith, r .slow, sc .grows);
-          small = omega (arith, t, r .small, w .0, w .1, sc .grows);
+          small = omega (arith, t, r .small, w, sc .grows);
         }
 
 -- ---- one loss, if any
@@ -350,7 +257,6 @@ module _ (s : List ℕ) (i at : ℕ) (bs : List ℕ) (to : ℕ) (h : Here s i at
       let n = length-bytes s f z ins in
       record {
         stands = scan-on s i at p (h .stands) sc;
-        lead = omega (arith, h .lead);
         slow = omega (arith, h .slow, sc .grows);
         room = omega (arith, q .end, n, w, h .room, sc .grows);
       }
@@ -382,7 +288,6 @@ module _ (s : List ℕ) (first start q l : ℕ) (rs : List ℕ) (count : ℕ) (b
   lose-turn rs₁ bs₁ g n h p = record {
     here = record {
       stands = h .stands;
-      lead = omega (arith, r .here .lead, h .index);
       slow = omega (arith, r .here .slow, h .slow);
       room = omega (arith, r .here .room, h .small);
     };
@@ -394,7 +299,7 @@ module _ (s : List ℕ) (first start q l : ℕ) (rs : List ℕ) (count : ℕ) (b
   }
 
   pub lose-end : length s ≤ at → Listed s first start q l rs count bs before rs' bs' (record { losses = k; bytes = to })
-  unfolding lossesAt lossesFrom cutLast parts
+  unfolding lossesAt lossesFrom parts
   lose-end le =
       let z : lossesAt s false i at ≡ [] = rw (drop-of-length-le s {i = at} le) in
       let e : r .past ≡ lossesAt s false first start = sym (append-nil (r .past)) ∙ ap (λ (x : List Loss). r .past ++ x) (sym z) ∙ r .goal in
@@ -491,7 +396,7 @@ module _ (s : List ℕ) (d : Lead) (f : Fields) (ld : LeadAt s d) (fs : FieldsAt
   groups-room a b =
       let n = start-counts in
       let m = flag-small in
-      (omega (arith, n .0, m .1), record { stands = ld .stands; lead = omega (arith, ld .count); slow = ld .slow; room = omega (arith, n .1, m .1) })
+      (omega (arith, n .0, m .1), record { stands = ld .stands; slow = ld .slow; room = omega (arith, n .1, m .1) })
 
   losses-are : passedLoss passed ++ lossesAt s false (d .count) (d .next) ≡ losses s
   unfolding losses lossesOf lossesAt
@@ -508,20 +413,11 @@ module _ (s : List ℕ) (d : Lead) (f : Fields) (ld : LeadAt s d) (fs : FieldsAt
 
 -- ---- no fields, no losses
 
--- no fields either from part n on, or with the last text cut
+-- nor from part n on
 drop-fieldless : (n : ℕ) {ps : List Part} → NoFields ps → NoFields (drop n ps)
 drop-fieldless zero h = h
 drop-fieldless (suc n) no-part = no-part
 drop-fieldless (suc n) (a-text w quoted h) = drop-fieldless n h
-
-cut-fieldless : (n : ℕ) {ps : List Part} → NoFields ps → NoFields (cutLast n ps)
-unfolding cutLast
-cut-fieldless n no-part = no-part
-cut-fieldless n (a-text w quoted {ps} h) = by (isEmpty (textsOf ps)) (cut-fieldless n h)
-  where
-    by : (t : Bool) → NoFields (cutLast n ps) → NoFields (cutIf t n (text w quoted) ∷ cutLast n ps)
-    by true r = a-text (take (length w - n) w) quoted r
-    by false r = a-text w quoted r
 
 -- a text is lost by a name field only
 fieldless-from : (all : List Part) (i : ℕ) (run : Bool) {ps : List Part} → fieldOf Name all ≡ [] → NoFields ps → lossesFrom all i run ps ≡ []
@@ -543,7 +439,7 @@ no-losses : (s : List ℕ) → NoFields (parts 0 s) → losses s ≡ []
 unfolding losses lossesOf
 no-losses s h =
     let all = parts 0 s in
-    rw (fieldless-passed all h) (fieldless-from all (leading all) false (field-none Name all h) (cut-fieldless (length (suffix all)) (drop-fieldless (leading all) h)))
+    rw (fieldless-passed all h) (fieldless-from all (leading all) false (field-none Name all h) (drop-fieldless (leading all) h))
 
 pub none-listed : (s : List ℕ) → ltb (toFirst (is "=") s) (length s) ≡ false → (q l : ℕ) (rs : List ℕ) (k : ℕ) (bs : List ℕ) (to : ℕ)
     → Lists q l rs k bs to rs k bs to (losses s) × ((k ≤ k + length s) × (to ≤ to + 2 * length s))

@@ -1,5 +1,5 @@
 -- The pieces of a caption in code.
---   named s joined f n k   the name: the n bytes of s from f on, where there are any; else the first k of the joined texts
+--   named s joined f n     the name: the n bytes of s from f on, where there are any; else the joined texts
 --   gap left right         the space between two pieces, where neither is empty
 --   added some w           what the text w adds behind joined texts: itself, behind a space where there are some
 --   nameTexts s            the joined texts, where they make the name: with a name field they are not needed
@@ -14,8 +14,8 @@ use Rattle.attribution_parts.specs.declared.Kind.the-variants.{Name}
 use Rattle.attribution_parts.specs.Parts.{parts}
 use Rattle.attribution_parts.specs.Attribution.{fieldOf, texts}
 
-unfoldable pub named : List ℕ → List ℕ → ℕ → ℕ → ℕ → List ℕ
-named s joined from size kept = cond (eqb size 0) (take kept joined) (take size (drop from s))
+unfoldable pub named : List ℕ → List ℕ → ℕ → ℕ → List ℕ
+named s joined from size = cond (eqb size 0) joined (take size (drop from s))
 
 unfoldable pub gap : Bool → Bool → List ℕ
 gap left right = cond (left && right) (32 ∷ []) []

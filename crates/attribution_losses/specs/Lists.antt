@@ -5,7 +5,7 @@
 --   Lists ..               the losses ls have been listed: the records from number k on, the bytes from `to` on
 -- Assumes nothing.
 use mathlib.Core.Path.{_≡_}
-use Prim.Native.Nat.{ℕ, _+_, _-_, _*_, _≤_, _<_}
+use Prim.Native.Nat.{ℕ, _+_, _*_, _≤_, _<_}
 use mathlib.Core.Bool.{Bool, true, false, cond, not, _&&_, _||_}
 use mathlib.Core.List.{List, [], _∷_, _++_}
 use lib.ListN.{length, take, drop}
@@ -13,14 +13,13 @@ use lib.Dec.{eqb, ltb}
 use Rattle.text.specs.Ascii.{ascii}
 use Rattle.attribution_reading.specs.declared.facts.Field.{Field}
 use Rattle.attribution_reading.specs.declared.facts.Fields.{Fields}
-use Rattle.attribution_reading.specs.declared.facts.Ends.{Ends}
 use Rattle.attribution_reading.specs.declared.facts.Lead.{Lead}
 use Rattle.attribution_losses.specs.declared.loss.Group.{Group}
 use Rattle.attribution_losses.specs.declared.loss.Counts.{Counts}
 use Rattle.attribution_parts.specs.Parts.{parts}
-use Rattle.attribution_parts.specs.Attribution.{Loss, lossOf, cutLast, runWords, lossesFrom, suffix, leading, isDay}
+use Rattle.attribution_parts.specs.Attribution.{Loss, lossOf, runWords, lossesFrom, isDay}
 use Rattle.attribution_reading.specs.Places.{Stands}
-use Rattle.attribution_reading.specs.Reads.{FieldsAt, EndsAt}
+use Rattle.attribution_reading.specs.Reads.{FieldsAt}
 
 pub record Puts (v : List ℕ) (at : ℕ) (v' : List ℕ) (at' : ℕ) (t : List ℕ) : Type 0 where
   pub size : length v' ≡ length v
@@ -49,10 +48,6 @@ pub record Lists (q l : ℕ) (rs : List ℕ) (k : ℕ) (bs : List ℕ) (to : ℕ
 
 -- ---- the losses part by part
 
--- the size of a text with the index i, without a split
-unfoldable pub cutSize : (size i end cut : ℕ) → ℕ
-cutSize size i end cut = cond (eqb (i + 1) end) (size - cut) size
-
 abbrev pub isAt : Field → ℕ → Bool
 isAt f i = ltb 0 (f .size) && eqb i (f .index)
 
@@ -73,21 +68,19 @@ passedLoss passed = cond passed (lossOf false (ascii "id")) []
 
 -- the losses from part i on, where the parts from `at` on are to be read
 unfoldable pub lossesAt : (s : List ℕ) (run : Bool) (i at : ℕ) → List Loss
-lossesAt s run i at = lossesFrom (parts 0 s) i run (cutLast (length (suffix (parts 0 s))) (parts 0 (drop at s)))
+lossesAt s run i at = lossesFrom (parts 0 s) i run (parts 0 (drop at s))
 
 unfoldable pub runAt : (s : List ℕ) (at : ℕ) → List ℕ
-runAt s at = runWords (cutLast (length (suffix (parts 0 s))) (parts 0 (drop at s)))
+runAt s at = runWords (parts 0 (drop at s))
 
 -- what has been read off the attribution
-pub record Told (s : List ℕ) (f : Fields) (day : Bool) (e : Ends) : Type 0 where
+pub record Told (s : List ℕ) (f : Fields) (day : Bool) : Type 0 where
   pub fields : FieldsAt s f
   pub seconds : day ≡ isDay (parts 0 s)
-  pub ends : EndsAt s e
 
--- part i, which is none before the leading id's end, begins at `at`; the bytes put from `to` on stay below 2^32
+-- part i begins at `at`; the bytes put from `to` on stay below 2^32
 pub record Here (s : List ℕ) (i at to : ℕ) : Type 0 where
   pub stands : Stands s i at
-  pub lead : leading (parts 0 s) ≤ i
   pub slow : i ≤ at
   pub room : to + 2 * length s ≤ 4294967295 + 2 * at
 

@@ -1,5 +1,4 @@
 // The losses of an attribution: counted, and listed in lent slices.
-use attribution_reading::facts::Ends;
 use attribution_reading::facts::Field;
 use attribution_reading::facts::Fields;
 use attribution_reading::facts::Lead;
@@ -17,8 +16,8 @@ ghost use Rattle.attribution_parts.specs.Parts.{parts};
 ghost use Rattle.attribution_parts.specs.Attribution.{isDay, losses};
 ghost use Rattle.attribution_parts.specs.declared.Kind.the-variants.{Time};
 ghost use Rattle.attribution_reading.specs.Places.{bytes};
-ghost use Rattle.attribution_reading.specs.Reads.{FieldAt, EndsAt};
-ghost use Rattle.attribution_losses.specs.Lists.{Puts, recordOf, cutSize, isAt, usedBy, passedBy, passedLoss, lossWords, Here, Told, Ran, Grouped, Lists, Listed};
+ghost use Rattle.attribution_reading.specs.Reads.{FieldAt};
+ghost use Rattle.attribution_losses.specs.Lists.{Puts, recordOf, isAt, usedBy, passedBy, passedLoss, lossWords, Here, Told, Ran, Grouped, Lists, Listed};
 
 // How many losses there are, and how many bytes their fields have.
 pub struct Counts {
@@ -167,22 +166,9 @@ fn is_used(f: Fields, day: bool, i: usize) -> bool
     is_shown(f.date, day, i)
 }
 
-fn cut_size(size: usize, i: usize, ends: Ends) -> usize
-    requires { ⌜ i < 18446744073709551615 ⌝ }
-    ensures { λ r. ⌜ r ≡ cutSize size i (ends .end) (ends .cut) ⌝ }
-{
-    if i + 1 == ends.end {
-        if ends.cut < size {
-            return size - ends.cut;
-        }
-        return 0;
-    }
-    size
-}
-
 // Puts the rest of a run, from part i on, each text behind a space.
-fn put_run(s: &[u8], start: usize, first: usize, ends: Ends, buf: &mut [u8], before: usize) -> Group
-    requires { ⌜ EndsAt (now s) ends × Here (now s) first start before ⌝ }
+fn put_run(s: &[u8], start: usize, first: usize, buf: &mut [u8], before: usize) -> Group
+    requires { ⌜ Here (now s) first start before ⌝ }
     ensures { λ r. ⌜ Ran (now (s .entry)) first start (now (buf .entry)) before (now (buf .exit)) r ⌝ }
 {
     let mut at = start;
@@ -206,9 +192,8 @@ fn put_run(s: &[u8], start: usize, first: usize, ends: Ends, buf: &mut [u8], bef
                 at: at,
             };
         }
-        let size = cut_size(p.size, i, ends);
         let e = put_byte(buf, to, b' ');
-        to = put_bytes(s, p.from, size, buf, e);
+        to = put_bytes(s, p.from, p.size, buf, e);
         i += 1;
         at = p.next;
     }
@@ -227,11 +212,10 @@ fn put_group(
     i: usize,
     fields: Fields,
     day: bool,
-    ends: Ends,
     buf: &mut [u8],
     to: usize,
 ) -> Group
-    requires { ⌜ (at < length (now s)) × (Told (now s) fields day ends × Here (now s) i at to) ⌝ }
+    requires { ⌜ (at < length (now s)) × (Told (now s) fields day × Here (now s) i at to) ⌝ }
     ensures { λ r. ⌜ Grouped (now (s .entry)) i at (now (buf .entry)) to (now (buf .exit)) r ⌝ }
 {
     let p = read_part(s, at);
@@ -261,10 +245,9 @@ fn put_group(
             at: p.next,
         };
     }
-    let size = cut_size(p.size, i, ends);
-    let e = put_bytes(s, p.from, size, buf, to);
+    let e = put_bytes(s, p.from, p.size, buf, to);
     if p.from == p.key {
-        return put_run(s, p.next, i + 1, ends, buf, e);
+        return put_run(s, p.next, i + 1, buf, e);
     }
     Group {
         unnamed: 1,
@@ -281,7 +264,6 @@ fn put_groups(
     first: usize,
     fields: Fields,
     day: bool,
-    ends: Ends,
     quote: u32,
     line: u32,
     records: &mut [u32],
@@ -289,7 +271,7 @@ fn put_groups(
     loss_bytes: &mut [u8],
     before: usize,
 ) -> Counts
-    requires { ⌜ (count + length (now s) < 4294967296) × (Told (now s) fields day ends × Here (now s) first start before) ⌝ }
+    requires { ⌜ (count + length (now s) < 4294967296) × (Told (now s) fields day × Here (now s) first start before) ⌝ }
     ensures { λ r. ⌜ Listed (now (s .entry)) first start quote line (now (records .entry)) count (now («loss_bytes» .entry)) before (now (records .exit)) (now («loss_bytes» .exit)) r ⌝ }
 {
     let mut at = start;
@@ -297,7 +279,7 @@ fn put_groups(
     let mut k = count;
     let mut to = before;
     while at < s.len() {
-        let g = put_group(s, at, i, fields, day, ends, loss_bytes, to);
+        let g = put_group(s, at, i, fields, day, loss_bytes, to);
         k = close_loss(records, k, quote, line, g.unnamed, to, g.to);
         to = g.to;
         i = g.index;
@@ -371,7 +353,7 @@ pub fn put_losses(
     loss_bytes: &mut [u8],
     at: usize,
 ) -> Counts
-    requires { ⌜ (length (now attribution) ≤ 1073741824) × ((k + length (now attribution) < 4294967295) × (at + 2 * length (now attribution) ≤ 4294967280)) ⌝ }
+    requires { ⌜ (k + length (now attribution) < 4294967295) × (at + 2 * length (now attribution) ≤ 4294967280) ⌝ }
     ensures { λ r. ⌜ Lists quote line (now (records .entry)) k (now («loss_bytes» .entry)) at (now (records .exit)) (r .losses) (now («loss_bytes» .exit)) (r .bytes) (losses (now (attribution .entry))) × ((r .losses ≤ k + length (now (attribution .entry))) × (r .bytes ≤ at + 2 * length (now (attribution .entry)))) ⌝ }
 {
     if !has_equals(attribution) {
@@ -383,7 +365,6 @@ pub fn put_losses(
     let facts = read_facts(attribution);
     let fields = facts.fields;
     let lead = facts.lead;
-    let ends = facts.ends;
     let day = is_day(attribution, fields.time);
     let c = put_passed(
         is_passed(lead, fields),
@@ -400,7 +381,6 @@ pub fn put_losses(
         lead.count,
         fields,
         day,
-        ends,
         quote,
         line,
         records,

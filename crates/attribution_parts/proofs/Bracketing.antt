@@ -17,7 +17,7 @@ use Rattle.day.proofs.Laws.{tens, tens-top, seconds-are, Small, date-small}
 use Rattle.attribution_parts.specs.declared.Kind.{Kind}
 use Rattle.attribution_parts.specs.declared.Kind.the-variants.{Name, PostId, Id, Date, Time}
 use Rattle.attribution_parts.specs.Parts.{Part, field, text, isSpace, inQuotes, value, keySize, readAt, partAt, here, more, parts}
-use Rattle.attribution_parts.specs.Attribution.{first, valueOf, partNo, fieldOf, isLeading, leading, leadingId, spaced, joined, textsOf, texts, orElse, given, kept, suffix, id, name, isDay, date, within, captionOf, caption}
+use Rattle.attribution_parts.specs.Attribution.{first, valueOf, partNo, fieldOf, isLeading, leading, leadingId, spaced, joined, textsOf, texts, orElse, id, name, isDay, date, within, captionOf, caption}
 
 -- ---- a day
 
@@ -147,25 +147,20 @@ module _ (ps : List Part) (h : in-parts ps ≡ 0) where
   unfolding texts
   texts-none = omega (arith, texts-brackets (drop (leading ps) ps), drop-parts (leading ps) ps)
 
-  -- the id by a field, else the leading id
-  given-none : brackets (given ps) ≡ 0
-  unfolding given leadingId
-  given-none =
+  -- the id
+  id-none : brackets (id ps) ≡ 0
+  unfolding id leadingId
+  id-none =
       omega (arith, orElse-brackets (fieldOf PostId ps) (orElse (fieldOf Id ps) (leadingId ps)), orElse-brackets (fieldOf Id ps) (leadingId ps), field-none PostId, field-none Id, leading-id (isLeading (partNo 0 ps)))
     where
       leading-id : (t : Bool) → brackets (cond t (valueOf (partNo 0 ps)) []) ≡ 0
       leading-id true = omega (arith, part-brackets 0 ps)
       leading-id false = brackets-none
 
-  -- the id
-  id-none : brackets (id ps) ≡ 0
-  unfolding id suffix
-  id-none = omega (arith, orElse-brackets (given ps) (drop 1 (suffix ps)), given-none, brackets-drop 1 (suffix ps), brackets-drop (kept ps) (texts ps), texts-none)
-
   -- the name
   name-none : brackets (name ps) ≡ 0
   unfolding name
-  name-none = omega (arith, orElse-brackets (fieldOf Name ps) (take (kept ps) (texts ps)), field-none Name, brackets-take (kept ps) (texts ps), texts-none)
+  name-none = omega (arith, orElse-brackets (fieldOf Name ps) (texts ps), field-none Name, texts-none)
 
   -- the date
   date-none : brackets (date ps) ≡ 0

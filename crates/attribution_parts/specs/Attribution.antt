@@ -5,20 +5,17 @@
 --   leadingId ps    the leading id; empty where there is none
 --   joined ws       the texts ws that are not empty, joined by single spaces
 --   texts ps        the texts but the leading id, joined
---   given ps        the id by a field, else the leading id
---   kept ps         how much of the texts a split `;digits` leaves: all where there is no split
 --   name, date, id  what the caption has of each; empty where it has none
 --   caption s       the caption of the attribution s
---   cutLast n ps    the parts, the last text that is not empty without its last n bytes
 --   lossAt ..       the loss that one part makes, if any
 --   losses s        the losses of the attribution s, by part index
 -- Assumes nothing.
-use Prim.Native.Nat.{ℕ, suc, _+_, _-_}
+use Prim.Native.Nat.{ℕ, suc}
 use mathlib.Core.Bool.{Bool, true, false, cond, not, _&&_, _||_}
 use mathlib.Core.List.{List, [], _∷_, _++_, map}
-use lib.ListN.{length, take, drop, getD}
-use lib.Dec.{eqb, ltb}
-use Rattle.text.specs.Ascii.{ascii, is, spells, isEmpty, digits}
+use lib.ListN.{drop, getD}
+use lib.Dec.{eqb}
+use Rattle.text.specs.Ascii.{ascii, spells, isEmpty, digits}
 use Rattle.day.specs.Day.{isSeconds, dayOf}
 use Rattle.attribution_parts.specs.declared.Kind.{Kind}
 use Rattle.attribution_parts.specs.declared.Kind.the-variants.{Name, PostId, Id, Date, Time}
@@ -96,31 +93,13 @@ abbrev pub orElse : List ℕ → List ℕ → List ℕ
 orElse [] t = t
 orElse (b ∷ s) t = b ∷ s
 
-unfoldable pub given : List Part → List ℕ
-given ps = orElse (fieldOf PostId ps) (orElse (fieldOf Id ps) (leadingId ps))
-
--- `;`, one or more digits, the end
-abbrev pub isSuffix : List ℕ → Bool
-isSuffix [] = false
-isSuffix (b ∷ s) = is ";" b && digits s
-
--- how many bytes stand before such an end, all where there is none
-unfoldable pub toSuffix : List ℕ → ℕ
-toSuffix [] = 0
-toSuffix (b ∷ s) = cond (isSuffix (b ∷ s)) 0 (suc (toSuffix s))
-
--- no id yet, and one or more bytes before the suffix
-unfoldable pub kept : List Part → ℕ
-kept ps = cond (isEmpty (given ps) && ltb 0 (toSuffix (texts ps))) (toSuffix (texts ps)) (length (texts ps))
-
-unfoldable pub suffix : List Part → List ℕ
-suffix ps = drop (kept ps) (texts ps)
-
+-- by a field, else the leading id
 unfoldable pub id : List Part → List ℕ
-id ps = orElse (given ps) (drop 1 (suffix ps))
+id ps = orElse (fieldOf PostId ps) (orElse (fieldOf Id ps) (leadingId ps))
 
+-- by a field, else the texts
 unfoldable pub name : List Part → List ℕ
-name ps = orElse (fieldOf Name ps) (take (kept ps) (texts ps))
+name ps = orElse (fieldOf Name ps) (texts ps)
 
 -- ---- date and caption
 
@@ -150,16 +129,6 @@ pub record Loss : Type 0 where
 abbrev pub lossOf : Bool → List ℕ → List Loss
 lossOf unnamed [] = []
 lossOf unnamed (b ∷ s) = record { unnamed = unnamed; words = b ∷ s } ∷ []
-
--- a part without the last n bytes of its text, where no text that is not empty stands behind it
-abbrev pub cutIf : Bool → ℕ → Part → Part
-cutIf last n (field key v) = field key v
-cutIf false n (text w quoted) = text w quoted
-cutIf true n (text w quoted) = text (take (length w - n) w) quoted
-
-unfoldable pub cutLast : ℕ → List Part → List Part
-cutLast n [] = []
-cutLast n (p ∷ ps) = cutIf (isEmpty (textsOf ps)) n p ∷ cutLast n ps
 
 -- the rest of a run of unquoted texts, each behind a space
 unfoldable pub runWords : List Part → List ℕ
@@ -202,12 +171,12 @@ module _ (all : List Part) where
   passedOver = cond (isEmpty (leadingId all) || (isEmpty (fieldOf PostId all) && isEmpty (fieldOf Id all))) [] (lossOf false (ascii "id"))
 
   unfoldable pub lossesOf : List Loss
-  lossesOf = passedOver ++ lossesFrom (leading all) false (cutLast (length (suffix all)) (drop (leading all) all))
+  lossesOf = passedOver ++ lossesFrom (leading all) false (drop (leading all) all)
 
 unfoldable pub losses : List ℕ → List Loss
 losses s = lossesOf (parts 0 s)
 
 -- all of this module, for `unfolding` where a closed text is to be computed
 unfoldable pub computes : Unit {0}
-unfolding first fieldOf leading leadingId joined textsOf texts given toSuffix kept suffix id name date captionOf caption cutLast runWords isUsed unnamed lossAt lossesFrom passedOver lossesOf losses
+unfolding first fieldOf leading leadingId joined textsOf texts id name date captionOf caption runWords isUsed unnamed lossAt lossesFrom passedOver lossesOf losses
 computes = tt

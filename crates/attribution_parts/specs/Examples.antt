@@ -24,15 +24,15 @@ leading-id-shown : Gives "\"42\" Ann" "Ann #42" ([])
 unfolding computes partsCompute textComputes dayComputes
 leading-id-shown = (refl, refl)
 
-suffix-alone-not-split : Gives ";7" ";7" ([])
+semicolon-first : Gives ";7" ";7" ([])
 unfolding computes partsCompute textComputes dayComputes
-suffix-alone-not-split = (refl, refl)
+semicolon-first = (refl, refl)
 
 texts-beside-name-lost : Gives "name=Ann rank=3 guest" "Ann" (key "rank" ∷ lost "guest" ∷ [])
 unfolding computes partsCompute textComputes dayComputes
 texts-beside-name-lost = (refl, refl)
 
-listed-by-thread : Gives "Ann;7 rank=3" "Ann #7" (key "rank" ∷ [])
+listed-by-thread : Gives "Ann;7 rank=3" "Ann;7" (key "rank" ∷ [])
 unfolding computes partsCompute textComputes dayComputes
 listed-by-thread = (refl, refl)
 
@@ -119,35 +119,23 @@ both-ids-passed-over : Gives "\"9\" post_id=1 id=2" "#1" (key "id" ∷ key "id" 
 unfolding computes partsCompute textComputes dayComputes
 both-ids-passed-over = (refl, refl)
 
--- ---- the split
+-- ---- a semicolon is as any other sign (document 02, 10/13)
 
-caption-longer-than-attribution : Gives "x;7" "x #7" ([])
+name-with-semicolon : Gives "Ann;7" "Ann;7" ([])
 unfolding computes partsCompute textComputes dayComputes
-caption-longer-than-attribution = (refl, refl)
+name-with-semicolon = (refl, refl)
 
-split-at-last-semicolon : Gives "Ann;7;8" "Ann;7 #8" ([])
+name-joined-behind-semicolon : Gives "Rook;2 \"3\"" "Rook;2 3" ([])
 unfolding computes partsCompute textComputes dayComputes
-split-at-last-semicolon = (refl, refl)
+name-joined-behind-semicolon = (refl, refl)
 
-split-trims-nothing : Gives "x ;7" "x  #7" ([])
+leading-id-beside-semicolon : Gives "\"42\" Ann;7" "Ann;7 #42" ([])
 unfolding computes partsCompute textComputes dayComputes
-split-trims-nothing = (refl, refl)
+leading-id-beside-semicolon = (refl, refl)
 
-split-off-last-loss : Gives "name=N x ;7" "N #7" (lost "x " ∷ [])
+loss-with-semicolon : Gives "name=N x ;7" "N" (lost "x ;7" ∷ [])
 unfolding computes partsCompute textComputes dayComputes
-split-off-last-loss = (refl, refl)
-
-split-of-all-texts-none : Gives "name=N ;7" "N" (lost ";7" ∷ [])
-unfolding computes partsCompute textComputes dayComputes
-split-of-all-texts-none = (refl, refl)
-
-loss-emptied-by-split-goes : Gives "name=N \"x\" ;7" "N #7" (lost "x" ∷ [])
-unfolding computes partsCompute textComputes dayComputes
-loss-emptied-by-split-goes = (refl, refl)
-
-no-split-behind-leading-id : Gives "\"9\" x;8" "x;8 #9" ([])
-unfolding computes partsCompute textComputes dayComputes
-no-split-behind-leading-id = (refl, refl)
+loss-with-semicolon = (refl, refl)
 
 -- ---- unnamed losses
 

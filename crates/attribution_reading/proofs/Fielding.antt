@@ -20,7 +20,7 @@ use Rattle.attribution_reading.specs.declared.scan.Place.{Place}
 use Rattle.attribution_parts.specs.Parts.{Part, field, text, parts}
 use Rattle.attribution_parts.specs.Attribution.{isKind, isUsable, counts, first, fieldOf, valueOf, partNo, leading}
 use Rattle.attribution_reading.specs.Places.{bytes, partOf, partWith, Stands, Scanned}
-use Rattle.attribution_reading.specs.Reads.{number, Tells, FieldAt, FieldsAt, fieldAs, earlierOf, FieldsStep, LeadAt}
+use Rattle.attribution_reading.specs.Reads.{number, Tells, FieldAt, FieldsAt, fieldAs, earlierOf, FieldsStep, Found, FoundAll, LeadAt}
 use Rattle.attribution_reading.proofs.Laws.{scan-on}
 
 -- ---- words and values
@@ -114,9 +114,6 @@ counts-sized {s} {at} {p} k sc h =
     let m = counts-some k (partOf s p) h in
     omega (arith, ap length v, n, m)
 
-pub scan-less : {s : List ℕ} {at : ℕ} {p : Place} → Scanned s at p → length s - p .next < length s - at
-scan-less sc = omega (arith, sc .grows, sc .inside)
-
 pub keeps-inside : {s : List ℕ} {at : ℕ} {p : Place} → Scanned s at p → (p .key + p .keylen ≤ length s) × (p .from + p .size ≤ length s)
 keeps-inside sc = (omega (arith, sc .key-ends, sc .inside), omega (arith, sc .ends, sc .inside))
 
@@ -124,12 +121,6 @@ keeps-inside sc = (omega (arith, sc .key-ends, sc .inside), omega (arith, sc .en
 
 pub part-no : (i : ℕ) (ps : List Part) (q : Part) (rest : List Part) → drop i ps ≡ q ∷ rest → partNo i ps ≡ q
 part-no i ps q rest e = sym (getD-drop i ps 0 (text [] false) ∙ ap (λ (x : ℕ). partNo x ps) (add-zero i)) ∙ ap (λ (l : List Part). partNo 0 l) e
-
--- what is known of the field of kind k once the scanner stands at `at`, behind i parts: it is the first one, or there is none among them
-pub record Found (s : List ℕ) (k : Kind) (i at : ℕ) (f : Field) : Type 0 where
-  pub inside : f .from + f .size ≤ length s
-  pub no : f .size ≡ 0 → first k (parts 0 s) ≡ i + first k (parts 0 (drop at s))
-  pub yes : (f .size ≡ 0 → ⊥) → FieldAt s k f
 
 abbrev pub nothing : Field
 nothing = record { from = 0; size = 0; index = 0 }
@@ -344,13 +335,8 @@ module _ (s : List ℕ) (f : Fields) (p : Place) (i n : ℕ) (t : Tells (λ k. c
 
 -- ---- all kinds
 
-pub record Reading (s : List ℕ) (i at : ℕ) (f : Fields) : Type 0 where
-  pub stands : Stands s i at
-  pub slow : i ≤ at
-  pub found : (k : Kind) → Found s k i at (fieldAs k f)
-
 -- behind the leading id
-pub read-lead : (s : List ℕ) (l : Lead) → LeadAt s l → Reading s (l .count) (l .next) noFields
+pub read-lead : (s : List ℕ) (l : Lead) → LeadAt s l → FoundAll s (l .count) (l .next) noFields
 read-lead s l h = record { stands = h .stands; slow = h .slow; found = λ k. rw (none k) (found-lead s k l h) }
   where
     none : (k : Kind) → fieldAs k noFields ≡ nothing
@@ -360,14 +346,14 @@ read-lead s l h = record { stands = h .stands; slow = h .slow; found = λ k. rw 
     none Date = refl
     none Time = refl
 
-pub read-on : {s : List ℕ} {i at : ℕ} {p : Place} {f g : Fields} → Reading s i at f → Scanned s at p → FieldsStep s f p i g → Reading s (i + 1) (p .next) g
+pub read-on : {s : List ℕ} {i at : ℕ} {p : Place} {f g : Fields} → FoundAll s i at f → Scanned s at p → FieldsStep s f p i g → FoundAll s (i + 1) (p .next) g
 read-on {s} {i} {at} {p} {f} {g} r sc st = record { stands = scan-on s i at p (r .stands) sc; slow = omega (arith, sc .grows, r .slow); found = λ k. rw (st .step k) (by k (counts k (partOf s p)) refl) }
   where
     by : (k : Kind) (t : Bool) → counts k (partOf s p) ≡ t → Found s k (i + 1) (p .next) (cond t (earlierOf (fieldAs k f) p i) (fieldAs k f))
     by k true h = found-here s k i at p (fieldAs k f) (r .stands) sc (r .found k) h
     by k false h = found-passed s k i at p (fieldAs k f) (r .stands) sc (r .found k) h
 
-pub read-all : {s : List ℕ} {i at : ℕ} {f : Fields} → Reading s i at f → length s ≤ at → FieldsAt s f
+pub read-all : {s : List ℕ} {i at : ℕ} {f : Fields} → FoundAll s i at f → length s ≤ at → FieldsAt s f
 read-all {s} {i} {at} {f} r le = record { name = all Name; post = all PostId; id = all Id; date = all Date; time = all Time }
   where
     all : (k : Kind) → FieldAt s k (fieldAs k f)

@@ -1,7 +1,6 @@
 pub mod Laws
-pub mod Suffix
 pub mod Fielding
 pub mod NoFields
-pub mod Texts
+pub mod Ids
 pub mod Meet
 pub mod LocalReader

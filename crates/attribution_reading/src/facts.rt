@@ -1,4 +1,4 @@
-// What an attribution says: its first usable fields, its leading id, its last text and the split of it.
+// What an attribution says: its first usable fields, its leading id, and the id of its caption.
 use crate::reader::next_part;
 use crate::reader::read_part;
 use crate::reader::reader_at;
@@ -7,20 +7,17 @@ use crate::scan::first_at;
 use day::all_digits;
 use text::PostAt;
 use text::scan::begins_at;
-use text::scan::is_inside;
 use text::scan::next_byte;
 ghost use mathlib.Core.Path.{_≡_};
 ghost use mathlib.Core.Bool.{cond};
-ghost use mathlib.Core.List.{[]};
-ghost use Prim.Native.Nat.{_+_, _≤_, _<_};
+ghost use Prim.Native.Nat.{_+_, _≤_};
 ghost use lib.Dec.{eqb, ltb};
 ghost use lib.ListN.{length};
 ghost use Rattle.text.specs.Ascii.{is, toFirst, spells, digits};
 ghost use Rattle.attribution_parts.specs.declared.Kind.the-variants.{Name};
-ghost use Rattle.attribution_parts.specs.Attribution.{isKind, counts, isLeading, leading, given, toSuffix};
-ghost use Rattle.attribution_parts.specs.Parts.{parts};
-ghost use Rattle.attribution_reading.specs.Places.{partOf, Stands};
-ghost use Rattle.attribution_reading.specs.Reads.{Tells, FieldsStep, FieldsAt, LeadAt, LastStep, LastAt, EndsAt};
+ghost use Rattle.attribution_parts.specs.Attribution.{isKind, counts, isLeading};
+ghost use Rattle.attribution_reading.specs.Places.{partOf};
+ghost use Rattle.attribution_reading.specs.Reads.{Tells, FieldsStep, FieldsAt, FoundAll, LeadAt, idBy, IdAt};
 
 // The kinds of fields by number, and what is of none.
 const NONE: u32 = 0;
@@ -59,20 +56,8 @@ pub struct Lead {
     pub next: usize,
 }
 
-// Where the last text that is not empty stands, the index behind it, and how many bytes the joined texts have.
-pub struct Last {
-    pub from: usize,
-    pub size: usize,
-    pub end: usize,
-    pub total: usize,
-}
-
-// The index behind the last text, how many bytes of it are a split `;digits`, how many of the joined texts are kept; and where the id of
-// the caption stands (no bytes: there is none).
-pub struct Ends {
-    pub end: usize,
-    pub cut: usize,
-    pub kept: usize,
+// Where the id of the caption stands (no bytes: there is none).
+pub struct IdPlace {
     pub from: usize,
     pub size: usize,
 }
@@ -81,7 +66,7 @@ pub struct Ends {
 pub struct Facts {
     pub fields: Fields,
     pub lead: Lead,
-    pub ends: Ends,
+    pub id: IdPlace,
 }
 
 fn is_word(word: &[u8], key: &[u8]) -> bool
@@ -274,188 +259,80 @@ pub fn leading_id(s: &[u8]) -> Lead
     }
 }
 
-// The last text, and then the part behind it at the place p, which has the index i.
-fn with_part(s: &[u8], last: Last, p: Place, i: usize) -> Last
-    requires { ⌜ (last .total + p .size < 4294967296) × ((i < 4294967296) × (p .from + p .size ≤ length (now s))) ⌝ }
-    ensures { λ r. ⌜ LastStep (now (s .entry)) last p i r ⌝ }
+// The first usable fields, and then all parts behind them, from the one with the index `first` on, which begins at `start`. One reader goes over
+// them.
+fn with_parts(s: &[u8], found: Fields, first: usize, start: usize) -> Fields
+    requires { ⌜ FoundAll (now s) first start found ⌝ }
+    ensures { λ r. ⌜ FieldsAt (now (s .entry)) r ⌝ }
 {
-    if p.keylen == 0 {
-        if 0 < p.size {
-            if last.total == 0 {
-                return Last {
-                    from: p.from,
-                    size: p.size,
-                    end: i + 1,
-                    total: p.size,
-                };
-            }
-            return Last {
-                from: p.from,
-                size: p.size,
-                end: i + 1,
-                total: last.total + 1 + p.size,
-            };
-        }
-    }
-    last
-}
-
-// The last text that is not empty, from part i on, which begins at `start`.
-fn last_text(s: &[u8], count: usize, start: usize) -> Last
-    requires { ⌜ (length (now s) ≤ 1073741824) × (Stands (now s) count start × (count ≤ start)) ⌝ }
-    ensures { λ r. ⌜ LastAt (now (s .entry)) count r ⌝ }
-{
-    let mut i = count;
-    let mut last = Last {
-        from: 0,
-        size: 0,
-        end: 0,
-        total: 0,
-    };
+    let mut i = first;
+    let mut fields = found;
     let mut reader = reader_at(s, start);
     while reader.next < s.len() {
         let p = next_part(&mut reader);
-        last = with_part(s, last, p, i);
+        fields = with_field(s, fields, p, i);
         i += 1;
     }
-    last
+    fields
 }
 
-// Where `;` and one or more digits to the end start; the end where there are none. Read from the end.
-fn suffix_start(s: &[u8]) -> usize
-    ensures { λ r. ⌜ r ≡ toSuffix (now (s .entry)) ⌝ }
-{
-    let mut i = s.len();
-    while 0 < i {
-        let j = i - 1;
-        if is_inside(b'0', b'9', s[j]) {
-            i = j;
-        } else {
-            if s[j] == b';' {
-                if i < s.len() {
-                    return j;
-                }
-                return s.len();
-            }
-            return s.len();
-        }
-    }
-    s.len()
-}
-
-// The split `;digits` of the last text, where no id is given otherwise: at least one byte of the joined texts stands before it.
-fn split_of(s: &[u8], last: Last) -> Ends
-    requires { ⌜ (length (now s) ≤ 1073741824) × (LastAt (now s) (leading (parts 0 (now s))) last × (given (parts 0 (now s)) ≡ [])) ⌝ }
-    ensures { λ r. ⌜ EndsAt (now (s .entry)) r ⌝ }
-{
-    let from = last.from;
-    let end = from + last.size;
-    let start = suffix_start(&s[from..end]);
-    let cut = last.size - start;
-    if 0 < cut {
-        if cut < last.total {
-            return Ends {
-                end: last.end,
-                cut: cut,
-                kept: last.total - cut,
-                from: from + start + 1,
-                size: cut - 1,
-            };
-        }
-    }
-    Ends {
-        end: last.end,
-        cut: 0,
-        kept: last.total,
-        from: 0,
-        size: 0,
-    }
-}
-
-// The split and the caption's id.
-fn ends_of(s: &[u8], fields: Fields, lead: Lead, last: Last) -> Ends
-    requires { ⌜ (length (now s) ≤ 1073741824) × (FieldsAt (now s) fields × (LeadAt (now s) lead × LastAt (now s) (lead .count) last)) ⌝ }
-    ensures { λ r. ⌜ EndsAt (now (s .entry)) r ⌝ }
-{
-    let post = fields.post;
-    if 0 < post.size {
-        return Ends {
-            end: last.end,
-            cut: 0,
-            kept: last.total,
-            from: post.from,
-            size: post.size,
-        };
-    }
-    let id = fields.id;
-    if 0 < id.size {
-        return Ends {
-            end: last.end,
-            cut: 0,
-            kept: last.total,
-            from: id.from,
-            size: id.size,
-        };
-    }
-    if 0 < lead.size {
-        return Ends {
-            end: last.end,
-            cut: 0,
-            kept: last.total,
-            from: lead.from,
-            size: lead.size,
-        };
-    }
-    split_of(s, last)
-}
-
-// What an attribution says. Behind the leading id, which is no field, one pass over the parts finds the fields and the last text; without a
-// `=` there are no fields.
-pub fn read_facts(s: &[u8]) -> Facts
-    requires { ⌜ length (now s) ≤ 1073741824 ⌝ }
-    ensures { λ r. ⌜ FieldsAt (now (s .entry)) (r .fields) × (LeadAt (now (s .entry)) (r .lead) × EndsAt (now (s .entry)) (r .ends)) ⌝ }
+// The first usable fields, which stand behind the leading id; without a `=` there are none.
+fn read_fields(s: &[u8], lead: Lead) -> Fields
+    requires { ⌜ LeadAt (now s) lead ⌝ }
+    ensures { λ r. ⌜ FieldsAt (now (s .entry)) r ⌝ }
 {
     let none = Field {
         from: 0,
         size: 0,
         index: 0,
     };
-    let mut fields = Fields {
+    let fields = Fields {
         name: none,
         post: none,
         id: none,
         date: none,
         time: none,
     };
-    let lead = leading_id(s);
-    if !has_equals(s) {
-        let last = last_text(s, lead.count, lead.next);
-        let ends = ends_of(s, fields, lead, last);
-        return Facts {
-            fields: fields,
-            lead: lead,
-            ends: ends,
+    if has_equals(s) {
+        return with_parts(s, fields, lead.count, lead.next);
+    }
+    fields
+}
+
+// The caption's id: in a post_id field, else in an id field, else the leading id.
+fn id_of(fields: Fields, lead: Lead) -> IdPlace
+    ensures { λ r. ⌜ r ≡ idBy fields lead ⌝ }
+{
+    let post = fields.post;
+    if 0 < post.size {
+        return IdPlace {
+            from: post.from,
+            size: post.size,
         };
     }
-    let mut last = Last {
-        from: 0,
-        size: 0,
-        end: 0,
-        total: 0,
-    };
-    let mut i = lead.count;
-    let mut at = lead.next;
-    while at < s.len() {
-        let p = read_part(s, at);
-        fields = with_field(s, fields, p, i);
-        last = with_part(s, last, p, i);
-        i += 1;
-        at = p.next;
+    let id = fields.id;
+    if 0 < id.size {
+        return IdPlace {
+            from: id.from,
+            size: id.size,
+        };
     }
-    let ends = ends_of(s, fields, lead, last);
+    IdPlace {
+        from: lead.from,
+        size: lead.size,
+    }
+}
+
+// What an attribution says.
+pub fn read_facts(s: &[u8]) -> Facts
+    ensures { λ r. ⌜ FieldsAt (now (s .entry)) (r .fields) × (LeadAt (now (s .entry)) (r .lead) × IdAt (now (s .entry)) (r .id)) ⌝ }
+{
+    let lead = leading_id(s);
+    let fields = read_fields(s, lead);
+    let id = id_of(fields, lead);
     Facts {
         fields: fields,
         lead: lead,
-        ends: ends,
+        id: id,
     }
 }

@@ -185,7 +185,7 @@ no-tags = refl
 thread : List ℕ
 thread = ascii "[quote=Ann;7 rank=3]Seed *late*[/quote]\n[quote=name=B x y=1]"
 
-thread-text : bytes (quotes attributionCaption (cellsOf thread)) ≡ ascii "\n\n> Seed *late*\n^ Ann #7\n\n\n\n\n>\n^ B\n\n"
+thread-text : bytes (quotes attributionCaption (cellsOf thread)) ≡ ascii "\n\n> Seed *late*\n^ Ann;7\n\n\n\n\n>\n^ B\n\n"
 unfolding thread asciiComputes blanksCompute cellsCompute linesCompute tagsCompute quotesCompute partsCompute attributionComputes dayComputes
 thread-text = refl
 

@@ -166,8 +166,8 @@ pub const FAMILIES: &[Family] = &[
     family("one attribution of fields", "`[quote=` and `x=1 ` again and again, `]`", |n| {
         cut(["[quote=", &"x=1 ".repeat(n / 4), "]"].concat(), n - 1).into_iter().chain([b']']).collect()
     }),
-    family("one attribution of ;digits", "`[quote=` and `;1` again and again, `]`", |n| {
-        cut(["[quote=", &";1".repeat(n / 2), "]"].concat(), n - 1).into_iter().chain([b']']).collect()
+    family("one attribution of unnamed losses", "`[quote=name=N ` and `a \"b\" ` again and again, `]`", |n| {
+        cut(["[quote=name=N ", &"a \"b\" ".repeat(n / 6), "]"].concat(), n - 1).into_iter().chain([b']']).collect()
     }),
     family("stray [/quote]", "`[/quote]` again and again", |n| again("[/quote]", n)),
     family("stray [/list] and [*]", "`[*][/list]` again and again", |n| again("[*][/list]", n)),

@@ -73,10 +73,10 @@ fn copy(from: &Lent, to: &mut (Vec<u8>, Vec<u32>)) {
     black_box(to);
 }
 
-/// The Rust original must answer the same, or the times say nothing.
+/// The Rust original must answer the same, but for attributions that it would split, or the times say nothing.
 fn agree(name: &str, post: &[u8], lent: &mut Lent) {
     if lent.convert(post) == 0 {
-        let (text, losses) = oracle::post(string(post));
+        let (text, losses) = oracle::post(string(post), compare::attribution::stands_in);
         assert!(text.as_bytes() == &lent.out[..lent.length()], "{name}, {} bytes: the texts differ", post.len());
         assert!(losses.len() == lent.losses(), "{name}, {} bytes: the losses differ", post.len());
     }
@@ -109,7 +109,7 @@ fn forum(n: usize) -> Forum {
         ],
     );
     let original = time::bounded(4 * PATIENCE, || {
-        black_box(oracle::post(black_box(string(&post))));
+        black_box(oracle::post(black_box(string(&post)), oracle::NO_RULE));
     });
     Forum { n, carve: times[0], cmark: times[1], memcpy, original, in_a_row: row[1] / row[0] }
 }
@@ -179,7 +179,7 @@ fn hard(family: &'static Family) -> Hard {
         carve: [f64::INFINITY; 3],
         memcpy,
         original: beside(family, |post| {
-            black_box(oracle::post(string(post)));
+            black_box(oracle::post(string(post), oracle::NO_RULE));
         }),
         cmark: beside(family, cmark::convert),
     }

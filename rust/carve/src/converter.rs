@@ -63,7 +63,7 @@ pub struct Marked {
 /// ```
 /// let mut converter = carve::Converter::new();
 /// let converted = converter.convert(b"[quote=Ann;7 rank=3]Seed [b]late[/b][/quote]").unwrap();
-/// assert_eq!(converted.text, "\n\n> Seed *late*\n^ Ann #7\n\n");
+/// assert_eq!(converted.text, "\n\n> Seed *late*\n^ Ann;7\n\n");
 /// assert_eq!(converted.copied(), 9);
 /// let loss = &converted.losses[0];
 /// assert_eq!((loss.quote, loss.line, loss.unnamed, loss.field.as_str()), (1, 1, false, "rank"));

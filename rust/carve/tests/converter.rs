@@ -73,3 +73,22 @@ fn a_single_attribution_has_no_quote_and_no_line() {
     let id = || Loss { quote: 0, line: 0, unnamed: false, field: "id".into() };
     assert_eq!(caption.losses, [id(), id()]);
 }
+
+#[test]
+fn a_number_behind_a_semicolon_stays_where_it_stands() {
+    let mut converter = Converter::new();
+    let mut caption = |attribution: &[u8]| converter.attribution(attribution).map(|caption| (caption.text, caption.losses)).expect("a caption");
+    for (attribution, text) in [
+        ("Ann;7", "Ann;7"),
+        ("Ann;7;8", "Ann;7;8"),
+        (";7", ";7"),
+        ("Rook;2 \"3\"", "Rook;2 3"),
+        ("\"42\" Ann;7", "Ann;7 #42"),
+        ("Ann;7 id=5", "Ann;7 #5"),
+    ] {
+        assert_eq!(caption(attribution.as_bytes()), (text.to_string(), vec![]));
+    }
+    let unnamed = |field: &str| Loss { quote: 0, line: 0, unnamed: true, field: field.into() };
+    assert_eq!(caption(b"name=N x ;7"), ("N".to_string(), vec![unnamed("x ;7")]));
+    assert_eq!(caption(b"name=N \"x\" ;7"), ("N".to_string(), vec![unnamed("x"), unnamed(";7")]));
+}

@@ -57,8 +57,8 @@ fn zero_behind(left: &Left) -> bool {
 fn a_post_with_a_quote_a_mark_and_a_loss() {
     let text = b"[quote=Ann;7 rank=3]Seed [b]late[/b][/quote]";
     let left = call(Operation::Post, text, 256);
-    assert_eq!((left.number, left.counts), (0, [26, 1, 4]));
-    assert_eq!(&left.out[..26], b"\n\n> Seed *late*\n^ Ann #7\n\n");
+    assert_eq!((left.number, left.counts), (0, [25, 1, 4]));
+    assert_eq!(&left.out[..25], b"\n\n> Seed *late*\n^ Ann;7\n\n");
     assert_eq!(left.records[0], Record { quote: 1, line: 1, unnamed: 0, start: 0, length: 4 });
     assert_eq!(&left.loss_bytes[..4], b"rank");
     assert!(zero_behind(&left));
@@ -133,16 +133,16 @@ fn a_day() {
 fn the_passes_alone() {
     let text = b"[quote=Ann;7 rank=3]Seed [b]late[/b][/quote]";
     let left = call(Operation::Quotes, text, 256);
-    assert_eq!((left.number, left.counts), (0, [31, 1, 4]));
-    assert_eq!(&left.out[..31], b"\n\n> Seed [b]late[/b]\n^ Ann #7\n\n");
+    assert_eq!((left.number, left.counts), (0, [30, 1, 4]));
+    assert_eq!(&left.out[..30], b"\n\n> Seed [b]late[/b]\n^ Ann;7\n\n");
     assert!(zero_behind(&left));
     let left = call_with(Operation::Lists, b"[list][*]a[*][i]b[/i][/list]", 64, 0, 0);
     assert_eq!((left.number, left.counts), (0, [18, 0, 0]));
     assert_eq!(&left.out[..18], b"\n\n- a\n- [i]b[/i]\n\n");
     assert!(zero_behind(&left));
     let left = call(Operation::Attribution, b"Ann;7 rank=3", 64);
-    assert_eq!((left.number, left.counts), (0, [6, 1, 4]));
-    assert_eq!(&left.out[..6], b"Ann #7");
+    assert_eq!((left.number, left.counts), (0, [5, 1, 4]));
+    assert_eq!(&left.out[..5], b"Ann;7");
     assert_eq!(left.records[0], Record { length: 4, ..Record::default() });
     assert!(zero_behind(&left) && left.origins.iter().all(|&o| o == 0));
     let left = call_with(Operation::Marks, b"a [b]x[/b]", 64, 0, 0);

@@ -1,5 +1,6 @@
 //! The cases that the program `replay` replays (crates/replay/data/cases): what each shows, its post, and the listing that `thread` has to print of
-//! it. Text and losses are the original's, `copied` is the model's, a refusal's number is document 01's by what `thread` lends.
+//! it. Text and losses are the original's, with the model's reading of an attribution that the original would split; `copied` is the model's, a
+//! refusal's number is document 01's by what `thread` lends.
 
 use crate::families::READINGS;
 use crate::grammar::{self, BLANKS};
@@ -41,6 +42,11 @@ const POSTS: &[(&str, &str)] = &[
     ("12 digits are no day", "[quote=time=123456789012]x[/quote]"),
     ("8 digits are no day", "[quote=time=12345678]x[/quote]"),
     ("9 digits", "[quote=time=000000000]x[/quote]"),
+    ("a number behind a semicolon stays in the name", "[quote=Rook;2]x[/quote]"),
+    ("a number behind a semicolon stays in the name, before a date", "[quote=Rook;2 date=d]x[/quote]"),
+    ("a number behind a semicolon stays in the name, in quotes", "[quote=\"Rook II;2\"]x[/quote]"),
+    ("a number behind a semicolon stays in the name, behind a line feed", "[quote=a\n;7]x[/quote]"),
+    ("a number behind a semicolon stays in the unnamed loss", "[quote=name=N k= x;7]x[/quote]"),
     ("a second quote of one attribution takes the next tag", "[quote=k=1]a[/quote]\n[quote=k=1]b[/quote]"),
     ("a quote without losses moves on too", "[quote=a]x[/quote]\n[quote=a]y[/quote]\n[quote=a k=1]z[/quote]"),
     ("a search that fails does not move on", "[quote= [i]x[/i] k=1]a[/quote]\n[quote= [i]y[/i] k=2]b[/quote]"),
@@ -352,7 +358,8 @@ mod tests {
     #[test]
     fn the_listing_of_document_01() {
         let (_, listing) = listing(b"[quote=Ann;7 rank=3]Seed [b]late[/b][/quote]");
-        let expected = "result=0\nlength=26\ncopied=9\nwritten=17\nlosses=1\nquote=1\nline=1\nunnamed=0\nfield=rank\ntext=\\n\\n> Seed *late*\\n^ Ann #7\\n\\n\n";
+        let expected =
+            "result=0\nlength=25\ncopied=9\nwritten=16\nlosses=1\nquote=1\nline=1\nunnamed=0\nfield=rank\ntext=\\n\\n> Seed *late*\\n^ Ann;7\\n\\n\n";
         assert_eq!(String::from_utf8(listing), Ok(expected.to_string()));
     }
 }

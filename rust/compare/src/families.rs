@@ -32,7 +32,7 @@ pub enum Extent {
 
 const PASSES: [Operation; 4] = [Operation::POST, Operation::MARKS, Operation::QUOTES, Operation::LISTS];
 
-/// Document 01's positions, and the texts by which it can be read in one way only.
+/// Document 01's positions, and the texts by which it, and document 02's request 10/13, can be read in one way only.
 pub const READINGS: &[&str] = &[
     WITH_LONGEST_OUTPUT,
     "",
@@ -81,6 +81,12 @@ pub const READINGS: &[&str] = &[
     "x ;7",
     "name=N x ;7",
     "name=N ;7",
+    "name=N \"x\" ;7",
+    "Rook;2 \"3\"",
+    "\"42\" Ann;7",
+    "id=x a;7",
+    "x;",
+    "x;7a",
     "name=N a \"\" b",
     "date=d time=12:30",
     "date=\"\" time=t",
@@ -155,6 +161,17 @@ fn many_quotes(draws: &mut Draws) -> String {
     out
 }
 
+/// Quotes whose attributions have `;digits`, or not quite that, in lines of their own or one in the other.
+fn numbered_quotes(draws: &mut Draws) -> String {
+    let mut out = String::new();
+    for _ in 0..1 + draws.below(4) {
+        let sign = draws.pick(&["=", " "]);
+        let content = draws.pick(&["x[/quote]\n", "x\n[/quote]", "\n"]);
+        out.push_str(&format!("[quote{sign}{}]{content}", grammar::numbered(draws)));
+    }
+    out
+}
+
 fn exhaustive(operation: Operation, name: &str, pieces: &'static [&'static str], longest: u32) -> Family {
     Family {
         name: format!("{name}, up to {longest} of {} pieces", pieces.len()),
@@ -205,6 +222,12 @@ pub fn families(extent: Extent, seed: u64) -> Vec<Family> {
         }),
         family("random attributions", Sort::Random, times(200_000, 1_000_000), move |number| {
             (vec![Operation::ATTRIBUTION], grammar::attribution(&mut draws(2, number)))
+        }),
+        family("random attributions with ;digits", Sort::Random, times(50_000, 300_000), move |number| {
+            (vec![Operation::ATTRIBUTION], grammar::numbered(&mut draws(7, number)))
+        }),
+        family("random quotes with ;digits", Sort::Random, times(10_000, 60_000), move |number| {
+            (vec![Operation::POST, Operation::QUOTES], numbered_quotes(&mut draws(8, number)))
         }),
         family("random depths around 64", Sort::Random, times(600, 3_000), move |number| (PASSES.to_vec(), deep(&mut draws(3, number)))),
         family("random quotes, many in a row", Sort::Random, times(1_000, 10_000), move |number| {

@@ -114,6 +114,50 @@ pub fn attribution(draws: &mut Draws) -> String {
     out
 }
 
+/// Around `;digits`: parts before it, what it follows in its own text, its digits or not quite digits, and what comes behind it.
+const BEFORE: &[&str] = &[
+    "\"42\" ",
+    "'42'",
+    "\"\" ",
+    "name=N ",
+    "author='A B' ",
+    "NAME= ",
+    "id=5 ",
+    "Id=x ",
+    "post_id=3 ",
+    "date=d ",
+    "time=951782400 ",
+    "k=1 ",
+    "a ",
+    "\"b\" ",
+    "é\u{a0}",
+    "\n",
+];
+const NUMBERED: &[&str] = &["", "", "Ann", "Ann", "Rook", "x ", "x\n", "a b", "ſ", "7", ";", "Ann;7", "k=", "\"", "\u{b}"];
+const NUMBERS: &[&str] = &["2", "7", "8", "42", "007", "951782400", "123456789012", "7a", "", "\u{663}"];
+const BEHIND: &[&str] =
+    &[" ", "\t", " id=8", " post_id=", " name=M", " date=d", " time=12:30", " rank=3", " \"3\"", " \"\"", " a", ";", ";8", "'", "\u{3000}"];
+
+/// An attribution with `;digits`, or with what is not quite that: in a run or in quotes, once or twice, with other parts before and behind it.
+pub fn numbered(draws: &mut Draws) -> String {
+    let mut out = String::new();
+    for _ in 0..draws.below(3) {
+        out.push_str(draws.pick(BEFORE));
+    }
+    for _ in 0..1 + draws.below(4) / 3 {
+        let (text, number) = (draws.pick(NUMBERED), draws.pick(NUMBERS));
+        out.push_str(&match draws.below(6) {
+            0 => format!("\"{text};{number}\""),
+            1 => format!("'{text};{number}' "),
+            _ => format!("{text};{number}"),
+        });
+    }
+    for _ in 0..draws.below(5) / 2 {
+        out.push_str(draws.pick(BEHIND));
+    }
+    out
+}
+
 /// A tag's letters in either case.
 fn cased(draws: &mut Draws, tag: &str) -> String {
     match draws.below(6) {

@@ -1,6 +1,7 @@
 //! What document 01 has an operation answer on a text: text, spans, captions, losses and lines by the original, origins, consumed bytes and needs by
-//! the model, refusals by the lent sizes.
+//! the model, refusals by the lent sizes. On an attribution that the original would split the model stands in for it (document 02, request 10/13).
 
+use crate::attribution::{self, Attribution};
 use crate::model::{self, Cell, Pass};
 use carve::{numbers_size, spans_size, work_size, MAX_OUT, MAX_TEXT};
 
@@ -105,6 +106,14 @@ pub struct Answer {
     pub steps: Vec<Step>,
     /// The consumed cells, where demand 3 is asked of the operation.
     pub taken: Option<Vec<Cell>>,
+    pub attributions: Attributions,
+}
+
+/// How many attributions a text has that are not empty, and on how many of them the model stands in for the original.
+#[derive(Debug, Clone, Copy, PartialEq, Eq, Default)]
+pub struct Attributions {
+    pub met: usize,
+    pub stood_in: usize,
 }
 
 /// The original gets U+0180 where the library gets U+017F, which it would fold to an `s` (docs/DIFFERENCES.md). Both have two bytes.
@@ -118,6 +127,39 @@ fn for_the_original(text: &str) -> String {
 
 fn for_the_library(text: &str) -> String {
     text.replace(STANDS_IN, LONG_S.encode_utf8(&mut [0; 2]))
+}
+
+/// A byte that no text has. It hides each `;` from the original, which then has nothing to split at.
+const HIDDEN: &str = "\0";
+
+/// What the original reads with each `;` hidden.
+fn unsplit(source: &str) -> oracle::Attribution {
+    let shown = |text: String| text.replace(HIDDEN, ";");
+    let (caption, losses) = oracle::attribution(&source.replace(';', HIDDEN));
+    (shown(caption), losses.into_iter().map(|(field, unnamed)| (shown(field), unnamed)).collect())
+}
+
+/// Holds the model's reading of an attribution to the original's: it is what the original reads without splitting, and the original as it is reads
+/// something else exactly where the model says that it would split.
+fn hold(source: &str, modelled: &Attribution) -> Result<(), String> {
+    let same = |original: &oracle::Attribution| modelled.caption == original.0 && modelled.losses == original.1;
+    let (original, unsplit) = (oracle::attribution(source), unsplit(source));
+    if !same(&unsplit) || same(&original) == modelled.would_split {
+        return Err(format!("of {source:?} the model reads {modelled:?}, the original {original:?}, and {unsplit:?} where it cannot split"));
+    }
+    Ok(())
+}
+
+/// Holds each attribution of a text.
+fn hold_all(sources: &[String]) -> Result<Attributions, String> {
+    let mut all = Attributions::default();
+    for source in sources {
+        let modelled = attribution::read(source);
+        hold(source, &modelled)?;
+        all.met += usize::from(!source.is_empty());
+        all.stood_in += usize::from(modelled.would_split);
+    }
+    Ok(all)
 }
 
 impl Answer {
@@ -156,7 +198,7 @@ impl Answer {
 
     /// The answer to a text that is refused before anything is read in it (1 to 4), or after (9).
     pub fn refused(steps: Vec<Step>) -> Answer {
-        Answer { text: vec![], origins: vec![], spans: vec![], losses: vec![], steps, taken: None }
+        Answer { text: vec![], origins: vec![], spans: vec![], losses: vec![], steps, taken: None, attributions: Attributions::default() }
     }
 
     /// The answer on a text. It is an error where model and original disagree.
@@ -167,10 +209,11 @@ impl Answer {
         let judged = for_the_original(text);
         let answer = match operation {
             Operation::POST => {
-                let (text, losses) = oracle::post(&judged);
                 let post = model::post(&judged);
+                let attributions = hold_all(&post.quotes.attributions)?;
+                let (text, losses) = oracle::post(&judged, attribution::stands_in);
                 let steps = post_steps(&post);
-                Answer { losses: numbered(losses), steps, ..from_model(&text, post.lists.text, post.taken)? }
+                Answer { losses: numbered(losses), steps, attributions, ..from_model(&text, post.lists.text, post.taken)? }
             }
             Operation::MARKS => {
                 let (text, spans) = oracle::marks(&judged);
@@ -183,10 +226,11 @@ impl Answer {
                 Answer { spans, steps, ..from_model(&text, pass.text, pass.taken)? }
             }
             Operation::QUOTES => {
-                let (text, losses) = oracle::quotes(&judged, &judged);
                 let pass = model::quotes(&model::cells_of(&judged));
+                let attributions = hold_all(&pass.attributions)?;
+                let (text, losses) = oracle::quotes(&judged, &judged, attribution::stands_in);
                 let steps = quotes_steps(&pass);
-                Answer { losses: numbered(losses), steps, ..from_model(&text, pass.text, pass.taken)? }
+                Answer { losses: numbered(losses), steps, attributions, ..from_model(&text, pass.text, pass.taken)? }
             }
             Operation::LISTS => {
                 let text = oracle::lists(&judged);
@@ -195,11 +239,12 @@ impl Answer {
                 Answer { steps, ..from_model(&text, pass.text, pass.taken)? }
             }
             Operation::ATTRIBUTION => {
-                let (caption, losses) = oracle::attribution(&judged);
+                let Attribution { caption, losses, .. } = attribution::read(&judged);
+                let attributions = hold_all(&[judged])?;
                 let text = for_the_library(&caption).into_bytes();
                 let losses = losses.into_iter().map(|(field, unnamed)| (0, 0, unnamed, for_the_library(&field))).collect();
                 let steps = vec![Step::Losses, Step::LossBytes, Step::Need(text.len())];
-                Answer { origins: vec![0; text.len()], text, losses, ..Answer::refused(steps) }
+                Answer { origins: vec![0; text.len()], text, losses, attributions, ..Answer::refused(steps) }
             }
             Operation::Day => match oracle::day(&judged) {
                 Some(day) => Answer { text: day.into_bytes(), ..Answer::refused(vec![]) },
@@ -243,6 +288,8 @@ fn post_steps(post: &model::Post) -> Vec<Step> {
 #[cfg(test)]
 mod tests {
     use super::*;
+    use crate::grammar;
+    use crate::pieces::Draws;
 
     fn number(operation: Operation, text: &[u8], change: impl FnOnce(&mut Sizes)) -> u32 {
         let answer = std::str::from_utf8(text).map_or_else(|_| Answer::refused(vec![]), |text| Answer::of(operation, text).expect("one answer"));
@@ -284,6 +331,46 @@ mod tests {
         assert_eq!(need(Operation::QUOTES, &format!("[quote]{}[/quote]", " ".repeat(100))), 100);
         assert_eq!(need(Operation::LISTS, "[list][*]   [list]"), 5);
         assert_eq!(need(Operation::POST, "[quote][/quote]"), 15);
+    }
+
+    /// A reading that splits after all is told, and so is one that says the wrong thing of the original, or is wrong in another place.
+    #[test]
+    fn wrong_attributions_are_told() {
+        let told = |source: &str, caption: &str, losses: &[(&str, bool)], would_split: bool| {
+            let losses = losses.iter().map(|&(field, unnamed)| (field.to_string(), unnamed)).collect();
+            hold(source, &Attribution { caption: caption.to_string(), losses, would_split }).is_err()
+        };
+        assert!(!told("Ann;7", "Ann;7", &[], true));
+        assert!(told("Ann;7", "Ann;7", &[], false));
+        assert!(told("Ann;7", "Ann #7", &[], true));
+        assert!(told("Ann;7", "Ann #7", &[], false));
+        assert!(told("Ann;7", "Ann;8", &[], true));
+        assert!(!told("name=N x ;7", "N", &[("x ;7", true)], true));
+        assert!(told("name=N x ;7", "N #7", &[("x ", true)], false));
+        assert!(told("name=N x ;7", "N", &[("x ", true)], true));
+        assert!(told("name=N x ;7", "N", &[("x ;7", false)], true));
+        assert!(!told("\"42\" Ann;7", "Ann;7 #42", &[], false));
+        assert!(told("\"42\" Ann;7", "Ann;7 #42", &[], true));
+        assert!(told("\"42\" Ann;7", "Ann #42", &[], false));
+        assert!(told("Ann k=1", "Ann", &[], false));
+    }
+
+    #[test]
+    fn random_attributions_are_held() {
+        oracle::keep_patterns();
+        for make in [grammar::attribution, grammar::numbered] {
+            let sources: Vec<String> = (0..20_000).map(|number| make(&mut Draws::at(1, number))).collect();
+            let all = hold_all(&sources).expect("one reading");
+            assert!(all.stood_in > 500 && all.met - all.stood_in > 5_000, "{all:?}");
+        }
+    }
+
+    #[test]
+    fn a_number_behind_a_semicolon_stays_in_quotes() {
+        let answer = Answer::of(Operation::POST, "[quote=Rook;2]x[/quote]\n[quote]y[/quote]\n[quote=name=ſ x ;7 k=]z").expect("one answer");
+        assert_eq!(String::from_utf8(answer.text), Ok("\n\n> x\n^ Rook;2\n\n\n\n\n> y\n\n\n\n\n> z\n^ ſ\n\n".to_string()));
+        assert_eq!(answer.losses, [(3, 3, true, "x ;7".to_string()), (3, 3, false, "k".to_string())]);
+        assert_eq!(answer.attributions, Attributions { met: 2, stood_in: 2 });
     }
 
     #[test]

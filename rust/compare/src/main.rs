@@ -121,6 +121,10 @@ fn run(extent: Extent, seed: u64, threads: u64) -> ExitCode {
     println!("answers by number: {}", all.numbers.iter().enumerate().map(|(i, n)| format!("{i}: {n}")).collect::<Vec<_>>().join(", "));
     println!("marks compared: {}, losses compared: {}", all.marks, all.losses);
     println!(
+        "attributions in {} trials; in {} of them, with {} calls, the model stood in for the original",
+        all.attributed, all.stood_in, all.stood_in_calls
+    );
+    println!(
         "compare: {} short, {} random and {} long texts in {} trials and {} calls, seed {seed}: {} differences, {:.0} s",
         texts[Sort::Short as usize],
         texts[Sort::Random as usize],

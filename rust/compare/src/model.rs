@@ -1,6 +1,8 @@
 //! Document 01's passes over cells in plain Rust: what is copied, written and consumed. It is compared with the original too, so that a
 //! consumed byte is consumed by the rules and not by what was written.
 
+use crate::attribution;
+
 /// One byte of a text: its origin (1 + its position in the post, 0 for a byte that a rule wrote) and whether its character is blank.
 #[derive(Clone, Copy, Debug, PartialEq, Eq)]
 pub struct Cell {
@@ -95,11 +97,14 @@ fn joined(lines: &[Text]) -> Text {
 }
 
 /// What a pass writes, the cells that it takes out, and its need.
+#[derive(Default)]
 pub struct Pass {
     pub text: Text,
     pub taken: Text,
     pub need: usize,
     pub too_deep: bool,
+    /// The attributions of its openers, as they stand there.
+    pub attributions: Vec<String>,
 }
 
 // ---- marks
@@ -283,7 +288,7 @@ pub fn marks(x: &[Cell]) -> (Pass, Vec<(usize, usize)>) {
     let mut spans = Vec::new();
     let text = write(&items, &mut spans, 0);
     let need = text.len();
-    (Pass { text, taken, need, too_deep: false }, spans)
+    (Pass { text, taken, need, ..Pass::default() }, spans)
 }
 
 // ---- quotes
@@ -325,7 +330,7 @@ pub fn quotes(x: &[Cell]) -> Pass {
     let brackets = brackets(x);
     let mut contents = vec![Text::new()];
     let mut captions: Vec<String> = Vec::new();
-    let mut pass = Pass { text: Text::new(), taken: Text::new(), need: 0, too_deep: false };
+    let mut pass = Pass::default();
     // All open contents together.
     let mut held = 0;
     fn close(contents: &mut Vec<Text>, caption: &str) -> (usize, usize) {
@@ -339,7 +344,9 @@ pub fn quotes(x: &[Cell]) -> Pass {
         if let Some((end, attribution)) = quote_opener(x, &brackets, i) {
             pass.too_deep |= captions.len() >= 64;
             pass.taken.extend(&x[i..end]);
-            captions.push(oracle::attribution(&string(&x[attribution])).0);
+            let attribution = string(&x[attribution]);
+            captions.push(attribution::read(&attribution).caption);
+            pass.attributions.push(attribution);
             contents.push(Text::new());
             i = end;
         } else if begins(&x[i..], "[/quote]") {
@@ -439,7 +446,7 @@ pub fn lists(x: &[Cell]) -> Pass {
     let mut root = Text::new();
     let mut root_lists = 0;
     let mut open: Vec<List> = Vec::new();
-    let mut pass = Pass { text: Text::new(), taken: Text::new(), need: 0, too_deep: false };
+    let mut pass = Pass::default();
     // The outermost text and all parts of open lists together.
     let mut held = 0;
     fn close(root: &mut Text, open: &mut Vec<List>, held: &mut usize) {

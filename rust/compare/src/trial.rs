@@ -19,6 +19,11 @@ pub struct Tally {
     pub numbers: [u64; 10],
     pub losses: u64,
     pub marks: u64,
+    /// Trials with an attribution that is not empty.
+    pub attributed: u64,
+    /// Those of them, and their calls, in which the model stands in for the original on one attribution or more.
+    pub stood_in: u64,
+    pub stood_in_calls: u64,
 }
 
 impl Tally {
@@ -27,6 +32,9 @@ impl Tally {
         self.calls += other.calls;
         self.losses += other.losses;
         self.marks += other.marks;
+        self.attributed += other.attributed;
+        self.stood_in += other.stood_in;
+        self.stood_in_calls += other.stood_in_calls;
         self.numbers.iter_mut().zip(other.numbers).for_each(|(mine, more)| *mine += more);
     }
 }
@@ -190,6 +198,7 @@ pub fn check(operation: Operation, text: &str, memory: &mut Memory, seed: u64, t
     tally.trials += 1;
     tally.losses += answer.losses.len() as u64;
     tally.marks += answer.spans.len() as u64 / 2;
+    let before = tally.calls;
     let mut call = |bytes: &[u8], answer: &Answer, sizes: &Sizes, draws: &mut Draws| {
         let number = answer.number(operation, bytes, sizes);
         tally.calls += 1;
@@ -217,6 +226,11 @@ pub fn check(operation: Operation, text: &str, memory: &mut Memory, seed: u64, t
             }
             call(bytes, &refused, &sizes, &mut draws)?;
         }
+    }
+    tally.attributed += u64::from(answer.attributions.met > 0);
+    if answer.attributions.stood_in > 0 {
+        tally.stood_in += 1;
+        tally.stood_in_calls += tally.calls - before;
     }
     Ok(())
 }
@@ -251,6 +265,34 @@ mod tests {
         assert!(told(Operation::POST, POST, |answer| answer.losses[0].3 = "ränk".into()));
         assert!(told(Operation::POST, POST, |answer| drop(answer.losses.pop())));
         assert!(told(Operation::MARKS, "[b]x[/b]", |answer| answer.spans[1] = 2));
+    }
+
+    /// An answer that splits `;digits` off after all, as the original does.
+    #[test]
+    fn answers_that_split_are_told() {
+        let split = |answer: &mut Answer, source: &str| {
+            let (caption, losses) = oracle::attribution(source);
+            answer.text = caption.into_bytes();
+            answer.losses = losses.into_iter().map(|(field, unnamed)| (0, 0, unnamed, field)).collect();
+        };
+        for source in ["Ann;7", "Ann;7;8", "x ;7", "id=x a;7", "name=N x ;7", "name=N \"x\" ;7"] {
+            assert!(told(Operation::ATTRIBUTION, source, |answer| split(answer, source)), "{source}");
+        }
+        for source in [";7", "name=N ;7", "Rook;2 \"3\"", "\"42\" Ann;7"] {
+            assert!(!told(Operation::ATTRIBUTION, source, |answer| split(answer, source)), "{source}");
+        }
+        let original = oracle::post(POST, oracle::NO_RULE).0;
+        assert!(told(Operation::POST, POST, |answer| answer.text = original.into_bytes()));
+    }
+
+    #[test]
+    fn trials_in_which_the_model_stands_in_are_counted() {
+        let mut tally = Tally::default();
+        for text in ["[quote=Ann;7]x", "[quote=Ann]x", "[quote]x"] {
+            assert_eq!(check(Operation::QUOTES, text, &mut Memory::default(), 1, &mut tally), Ok(()));
+        }
+        assert_eq!((tally.trials, tally.attributed, tally.stood_in), (3, 2, 1));
+        assert!(0 < tally.stood_in_calls && tally.stood_in_calls < tally.calls);
     }
 
     #[test]

@@ -6,7 +6,7 @@ use std::path::{Path, PathBuf};
 use std::process::{Command, Output, Stdio};
 
 const THREAD: &str = "[quote=Ann;7 rank=3]Seed [b]late[/b][/quote]";
-const THREAD_TEXT: &str = "\n\n> Seed *late*\n^ Ann #7\n\n";
+const THREAD_TEXT: &str = "\n\n> Seed *late*\n^ Ann;7\n\n";
 
 /// A folder of its own, gone when the test ends.
 struct Folder(PathBuf);

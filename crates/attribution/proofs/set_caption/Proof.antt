@@ -41,7 +41,7 @@ put-caption-requires c κs =
     let s = c .before .before .before .before .before .before .before .before .before .set-source in
     let z = s .kept .1 .0 in
     let j = c .before .before .before .before .before .join-texts .ensures in
-    (words-spoken (x .text .now) (s .ensures) (omega arith) (omega (arith, p .1 .0, z)) j (c .before .before .if1 .left) (p .0 .0), (omega (arith, j .size, z, p .1 .0), omega (arith, p .1 .1)))
+    (words-spoken (x .text .now) (s .ensures) (omega arith) (omega (arith, p .1 .0, z)) j (c .before .before .if1 .left), (omega (arith, j .size, z, p .1 .0), omega (arith, p .1 .1)))
 
 -- src/lib.rt:49:1
 same-length-2 : tie.Need-same-length-2

@@ -1,7 +1,5 @@
 use borrow.Author.Needs.{needs}
-use mathlib.Core.Path.{sym}
 use Prim.Native.Nat.{_-_}
-use lib.Seq.{length-take-le}
 use native.Mathlib.Nat.{add-sub-cancel-left}
 use borrow.Author.Tests.{eq-eqb, ne-eqb}
 use Rattle.attribution_losses.specs.Captions.{named}
@@ -9,13 +7,9 @@ use Rattle.attribution.proofs.caption.name.Statement.{statement}
 use Rattle.attribution.proofs.caption.name.Tie as tie
 
 -- src/lib.rt:31:9
-slice-aggregate-result : tie.Need-slice-aggregate-result
-slice-aggregate-result c = let a = c .before .before .args in sym (length-take-le (a .kept) (a .joined .now) (c .before .before .pre .1 (c .before .if1 .taken)))
-
--- src/lib.rt:31:9
 returns : tie.Need-returns
 unfolding named
-returns c = rw (eq-eqb _ 0 (c .before .if1 .taken))
+returns c = rw (eq-eqb _ 0 (c .if1 .taken))
 
 -- src/lib.rt:33:15
 add-end : tie.Need-add-end
@@ -44,7 +38,6 @@ pub name-spec : {M : Type 1} → statement M
 name-spec =
     tie.close
     (tie.spec
-    slice-aggregate-result
     returns
     add-end
     sub-result

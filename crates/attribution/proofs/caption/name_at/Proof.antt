@@ -27,32 +27,31 @@ name-requires c κs =
     let s = c .before .before .before in
     let p = s .pre in
     let l = cut-length (s .args .w .from .0) (s .args .w .to .0) (s .args .work .now) (p .0 .1 .0) in
-    let m = cut-length (s .args .w .joined .0) (s .args .w .past .0) (s .args .work .now) (p .0 .1 .1 .1) in
-    (omega (arith, l, p .1 .0), λ z. let q = p .1 .1 z in omega (arith, m, q))
+    omega (arith, l, p .1)
 
-add-t22 : tie.Need-add-t22
-add-t22 c = search needs
+add-t21 : tie.Need-add-t21
+add-t21 c = search needs
 
 returns : tie.Need-returns
 returns c =
     let s = c .before .before .before .before .before in
     let p = s .pre in
-    name-joined (s .args .work .now) (s .args .w) (s .args .from) (s .args .size) (s .args .kept) (c .before .name .ensures) (c .if1 .taken) (p .0 .1 .1 .0) (p .0 .1 .1 .1) (p .1 .1 (c .if1 .taken))
+    name-joined (s .args .work .now) (s .args .w) (s .args .from) (s .args .size) (c .before .name .ensures) (c .if1 .taken) (p .0 .1 .1 .0) (p .0 .1 .1 .1)
 
-add-t13 : tie.Need-add-t13
-add-t13 c = search needs
+add-t12 : tie.Need-add-t12
+add-t12 c = search needs
 
-add-t17 : tie.Need-add-t17
-add-t17 c = search needs
+add-t16 : tie.Need-add-t16
+add-t16 c = search needs
 
-add-t25 : tie.Need-add-t25
-add-t25 c = search needs
+add-t24 : tie.Need-add-t24
+add-t24 c = search needs
 
 returns-2 : tie.Need-returns-2
 returns-2 c =
     let s = c .before .before .before .before .before in
     let p = s .pre in
-    name-field (s .args .work .now) (s .args .w) (s .args .from) (s .args .size) (s .args .kept) (c .before .name .ensures) (c .if1 .left) (p .0 .0) (p .0 .1 .0) (p .1 .0)
+    name-field (s .args .work .now) (s .args .w) (s .args .from) (s .args .size) (c .before .name .ensures) (c .if1 .left) (p .0 .0) (p .0 .1 .0) (p .1)
 
 pub name-at-spec : {M : Type 1} → statement M
 name-at-spec =
@@ -65,9 +64,9 @@ name-at-spec =
     part-name-start-2
     part-name-end-2
     name-requires
-    add-t22
+    add-t21
     returns
-    add-t13
-    add-t17
-    add-t25
+    add-t12
+    add-t16
+    add-t24
     returns-2)

@@ -8,13 +8,14 @@ use mathlib.Core.Path.{subst}
 use Rattle.attribution.specs.Spoken.{said}
 use Rattle.attribution_parts.specs.Attribution.{spaced, within, date, id}
 use Rattle.attribution_parts.specs.Parts.{parts}
+use Rattle.attribution_reading.specs.Reads.{IdAt}
 use Rattle.attribution_losses.specs.Lists.{Told}
 use Rattle.text.specs.Writes.{cut}
 use Rattle.text.specs.Ascii.{ascii}
 use Rattle.text.specs.Cells.{written}
 use Rattle.text.proofs.Areas.{appendsIn-as, appendsIn-then}
 use Rattle.attribution.proofs.Speaking.{cut-length, said-length, said-on, spoken-on}
-use Rattle.attribution.proofs.Captioning.{kept-within, caption-is}
+use Rattle.attribution.proofs.Captioning.{caption-is}
 use Rattle.attribution.proofs.caption.put_pieces.Statement.{statement}
 use Rattle.attribution.proofs.caption.put_pieces.Tie as tie
 
@@ -29,8 +30,7 @@ name-at-requires c κs =
     let a = c .before .before .before .before .before .before .args in
     let q = c .before .before .before .before .before .before .pre .0 in
     let l = said-length (a .work .now) (a .w) (q .0) in
-    let m = cut-length (a .w .joined .0) (a .w .past .0) (a .work .now) (q .0 .joined-inside) in
-    ((q .0 .order, (q .0 .inside, (q .0 .joined-order, q .0 .joined-inside))), (omega (arith, l, q .1 .fields .name .inside), λ z. let k = kept-within (said (a .w) (a .work .now)) (a .fields) (a .day) (a .ends) (q .1) (cut (a .w .joined .0) (a .w .past .0) (a .work .now)) (q .0 .joins) z in omega (arith, m, k)))
+    ((q .0 .order, (q .0 .inside, (q .0 .joined-order, q .0 .joined-inside))), omega (arith, l, q .1 .0 .fields .name .inside))
 
 sub-n : tie.Need-sub-n
 sub-n c = search needs
@@ -50,7 +50,7 @@ put-rest-requires c κs =
     let a = c .before .before .before .before .before .before .before .before .before .before .before .before .before .before .before .before .before .before .before .before .before .before .before .args in
     let q = c .before .before .before .before .before .before .before .before .before .before .before .before .before .before .before .before .before .before .before .before .before .before .before .pre .0 in
     let p = appendsIn-then (c .before .before .before .before .before .before .before .before .before .before .before .before .before .put-within .ensures) (c .before .before .before .before .before .before .put-gap .ensures) in
-    ((spoken-on p (q .0) (search needs), subst (λ (x : List ℕ). Told x (a .fields) (a .day) (a .ends)) (sym (said-on p (q .0))) (q .1)), (omega (arith, c .before .before .before .before .before .before .before .before .before .before .before .before .before .before .before .before .before .before .before .before .before .before .before .pre .1 .0), omega (arith, c .before .before .before .before .before .before .before .before .before .before .before .before .before .before .before .before .before .before .before .before .before .before .before .pre .1 .1)))
+    ((spoken-on p (q .0) (search needs), subst (λ (x : List ℕ). Told x (a .fields) (a .day) × IdAt x (a .id)) (sym (said-on p (q .0))) (q .1)), (omega (arith, c .before .before .before .before .before .before .before .before .before .before .before .before .before .before .before .before .before .before .before .before .before .before .before .pre .1 .0), omega (arith, c .before .before .before .before .before .before .before .before .before .before .before .before .before .before .before .before .before .before .before .before .before .before .before .pre .1 .1)))
 
 same-length : tie.Need-same-length
 same-length c = search needs
@@ -65,7 +65,7 @@ returns c =
     let n = c .before .before .before .before .before .before .before .before .before .before .before .before .before .before .before .before .before .before .before .before .before .name-at .ensures in
     let p = appendsIn-then (c .before .before .before .before .before .before .before .before .before .before .before .before .before .before .before .before .before .before .put-within .ensures) (c .before .before .before .before .before .before .before .before .before .before .before .put-gap .ensures) in
     let m : length (cut (c .before .before .before .before .before .before .before .before .before .before .before .before .before .before .before .before .before .before .before .before .before .name-at .result .from .0) (c .before .before .before .before .before .before .before .before .before .before .before .before .before .before .before .before .before .before .before .before .before .name-at .result .to .0) (a .work .now)) ≡ c .before .before .before .before .before .before .before .before .before .before .before .before .before .before .before .before .before .before .before .before .before .name-at .result .to .0 - c .before .before .before .before .before .before .before .before .before .before .before .before .before .before .before .before .before .before .before .before .before .name-at .result .from .0 = cut-length _ _ (a .work .now) (n .inside) in
-    let k = caption-is (said (a .w) (a .work .now)) (a .fields) (a .day) (a .ends) (q .1) (cut (a .w .joined .0) (a .w .past .0) (a .work .now)) (q .0 .joins) _ _ _ (n .words) (c .before .before .before .before .before .before .before .before .before .before .before .before .before .before .before .before .before .before .before .before .before .before .before .before .is-dated .ensures) (c .before .before .before .before .before .before .before .before .before .before .before .before .before .before .before .before .before .before .before .before .before .before .before .has-more .ensures) in
+    let k = caption-is (said (a .w) (a .work .now)) (a .fields) (a .day) (q .1 .0) (a .id) (q .1 .1) (cut (a .w .joined .0) (a .w .past .0) (a .work .now)) (q .0 .joins) _ _ _ (n .words) (c .before .before .before .before .before .before .before .before .before .before .before .before .before .before .before .before .before .before .before .before .before .before .before .before .is-dated .ensures) (c .before .before .before .before .before .before .before .before .before .before .before .before .before .before .before .before .before .before .before .before .before .before .before .has-more .ensures) in
     appendsIn-as (rw m at k) (appendsIn-then p (appendsIn-as (ap (λ (x : List ℕ). written (spaced (within (ascii "(") (date (parts 0 x)) (ascii ")")) (within (ascii "#") (id (parts 0 x)) []))) (said-on p (q .0))) (c .before .before .before .before .put-rest .ensures)))
 
 pub put-pieces-spec : {M : Type 1} → statement M

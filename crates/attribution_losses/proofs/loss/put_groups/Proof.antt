@@ -6,11 +6,11 @@ use Rattle.attribution_losses.proofs.loss.put_groups.Statement.{stateme
 use Rattle.attribution_losses.proofs.loss.put_groups.Tie as tie
 
 abbrev Inv-loop : tie.InvT-loop
-Inv-loop s start first fields day ends quote line records₀ count loss-bytes₀ before at₀ i₀ k₀ to₀ records loss-bytes at i k to =
+Inv-loop s start first fields day quote line records₀ count loss-bytes₀ before at₀ i₀ k₀ to₀ records loss-bytes at i k to =
     Losing s first start quote line records₀ count loss-bytes₀ before i at records k loss-bytes to
 
 abbrev μ-loop : tie.MeasureT-loop
-μ-loop s start first fields day ends quote line records₀ count loss-bytes₀ before at₀ i₀ k₀ to₀ records loss-bytes at i k to =
+μ-loop s start first fields day quote line records₀ count loss-bytes₀ before at₀ i₀ k₀ to₀ records loss-bytes at i k to =
     length s - at
 
 loop-holds : tie.Need-loop-holds Inv-loop μ-loop

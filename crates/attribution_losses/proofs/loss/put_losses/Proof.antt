@@ -23,10 +23,10 @@ is-passed-requires : tie.Need-is-passed-requires
 is-passed-requires c κs = search needs
 
 put-passed-requires : tie.Need-put-passed-requires
-put-passed-requires c κs = let pre = c .before .before .before .before .before .before .before .before .before .before .before .before .before .pre in (omega (arith, pre .1 .0), omega (arith, pre .1 .1))
+put-passed-requires c κs = let pre = c .before .before .before .before .before .before .before .before .before .before .before .before .pre in (omega (arith, pre .0), omega (arith, pre .1))
 
 put-groups-requires : tie.Need-put-groups-requires
-put-groups-requires c κs = let pre = c .before .before .before .before .before .before .before .before .before .before .before .before .before .before .before .before .before .before .before .before .pre in let a = c .before .before .before .before .before .before .before .before .before .before .before .before .before .before .before .before .before .before .before .before .args in let h = c .before .before .before .before .before .before .before .before .before .before .before .before .before .before .read-facts .ensures in let g = groups-room (a .attribution .now) _ _ (h .1 .0) (h .0) _ (c .before .before .before .before .before .before .before .before .before .is-passed .ensures) (a .quote) (a .line) (a .k) (a .at) _ _ _ _ _ (c .before .before .before .before .before .before .put-passed .ensures) (pre .1 .0) (pre .1 .1) in (g .0, (record { fields = h .0; seconds = c .before .before .before .before .before .before .before .before .before .before .is-day .ensures; ends = h .1 .1 }, g .1))
+put-groups-requires c κs = let pre = c .before .before .before .before .before .before .before .before .before .before .before .before .before .before .before .before .before .before .before .pre in let a = c .before .before .before .before .before .before .before .before .before .before .before .before .before .before .before .before .before .before .before .args in let h = c .before .before .before .before .before .before .before .before .before .before .before .before .before .read-facts .ensures in let g = groups-room (a .attribution .now) _ _ (h .1 .0) (h .0) _ (c .before .before .before .before .before .before .before .before .before .is-passed .ensures) (a .quote) (a .line) (a .k) (a .at) _ _ _ _ _ (c .before .before .before .before .before .before .put-passed .ensures) (pre .0) (pre .1) in (g .0, (record { fields = h .0; seconds = c .before .before .before .before .before .before .before .before .before .before .is-day .ensures }, g .1))
 
 same-length : tie.Need-same-length
 same-length c = search needs
@@ -35,7 +35,7 @@ same-length-2 : tie.Need-same-length-2
 same-length-2 c = search needs
 
 returns-2 : tie.Need-returns-2
-returns-2 c = let a = c .before .before .before .before .before .before .before .before .before .before .before .before .before .before .before .before .before .before .before .before .before .before .before .before .before .args in let h = c .before .before .before .before .before .before .before .before .before .before .before .before .before .before .before .before .before .before .before .read-facts .ensures in all-listed (a .attribution .now) _ _ (h .1 .0) (h .0) _ (c .before .before .before .before .before .before .before .before .before .before .before .before .before .before .is-passed .ensures) (a .quote) (a .line) (a .k) (a .at) _ _ _ _ _ (c .before .before .before .before .before .before .before .before .before .before .before .put-passed .ensures) _ _ _ (c .before .before .before .before .put-groups .ensures)
+returns-2 c = let a = c .before .before .before .before .before .before .before .before .before .before .before .before .before .before .before .before .before .before .before .before .before .before .before .before .args in let h = c .before .before .before .before .before .before .before .before .before .before .before .before .before .before .before .before .before .before .read-facts .ensures in all-listed (a .attribution .now) _ _ (h .1 .0) (h .0) _ (c .before .before .before .before .before .before .before .before .before .before .before .before .before .before .is-passed .ensures) (a .quote) (a .line) (a .k) (a .at) _ _ _ _ _ (c .before .before .before .before .before .before .before .before .before .before .before .put-passed .ensures) _ _ _ (c .before .before .before .before .put-groups .ensures)
 
 pub put-losses-spec : {M : Type 1} → statement M
 put-losses-spec =

@@ -1,7 +1,7 @@
 use borrow.Author.Needs.{needs}
 use mathlib.Core.Path.{sym, _∙_}
 use Prim.Native.Nat.{_-_}
-use Rattle.attribution_reading.proofs.Texts.{no-lead-field, no-lead-run, lead-digits}
+use Rattle.attribution_reading.proofs.Ids.{no-lead-field, no-lead-run, lead-digits}
 use Rattle.attribution_reading.proofs.facts.is_leading.Statement.{statement}
 use Rattle.attribution_reading.proofs.facts.is_leading.Tie as tie
 

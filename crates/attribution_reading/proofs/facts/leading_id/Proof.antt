@@ -2,7 +2,7 @@ use borrow.Author.Needs.{needs}
 use native.Mathlib.Omega.{arith}
 use mathlib.Core.Path.{sym, _∙_}
 use Prim.Native.Nat.{_-_}
-use Rattle.attribution_reading.proofs.Texts.{lead-end, lead-unquoted, lead-other, lead-found}
+use Rattle.attribution_reading.proofs.Ids.{lead-end, lead-unquoted, lead-other, lead-found}
 use Rattle.attribution_reading.proofs.facts.leading_id.Statement.{statement}
 use Rattle.attribution_reading.proofs.facts.leading_id.Tie as tie
 

@@ -83,7 +83,7 @@ put-losses-requires c κs =
     let a = c .before .before .before .before .before .before .before .before .before .before .before .before .before .before .before .before .before in
     let room = opener-room (a .args .source .now) (a .args .from .at .0) _ _ (a .pre .0 .0) (c .before .before .before .before .before .before .before .before .before .before .tag-at .ensures .1 .0) (c .before .before .before .before .before .before .before .before .if1 .taken) (c .before .before .before .before .before .before .before .attribution-size .ensures) in
     let h = attribution-short (a .args .source .now) (a .args .from .at .0) _ _ (a .pre .0 .0) (c .before .before .before .before .before .before .before .before .before .before .tag-at .ensures .1 .0) (c .before .before .before .before .before .before .before .before .if1 .taken) (c .before .before .before .before .before .before .before .attribution-size .ensures) in
-    (omega (arith, h, room .1, a .pre .0 .1), (omega (arith, h, room .1, a .pre .0 .1, a .pre .1 .0 .1 .losses), omega (arith, h, room .1, a .pre .0 .1, a .pre .1 .0 .1 .bytes)))
+    (omega (arith, h, room .1, a .pre .0 .1, a .pre .1 .0 .1 .losses), omega (arith, h, room .1, a .pre .0 .1, a .pre .1 .0 .1 .bytes))
 
 open-more-requires : tie.Need-open-more-requires
 open-more-requires c κs = c .before .before .before .before .before .before .before .before .before .before .before .before .before .before .before .before .before .before .before .before .before .before .pre .1 .0 .0 .1

@@ -71,7 +71,7 @@ quote-block-requires c κs =
     let hv : x .m .top .0 ≤ length (x .work .now) = omega (arith, p .0) in
     let k : c .before .before .before .before .before .join-texts .result ≤ length (x .work .now) = omega (arith, J .size, c .before .before .if1 .left) in (
       ((p .1 .1 .1 .0, p .1 .1 .1 .1), omega (arith, p .1 .1 .1 .1, p .0)),
-      (spoken-there _ _ _ (E .0 .0) (omega (arith, hb, p .0)) (p .0 .1 .1 .1 .0) (omega (arith, J .end)) (omega (arith, k, J .size)) (omega (arith, hb, he, p .0 .1 .1 .1 .1)) (joined-is (x .work .now) (x .m .text .0) (x .m .top .0) (x .tag .0) _ _ (E .0 .0) hb he hv (E .1) J k), (omega (arith, J .size, hv), p .0 .1 .0 .1)),
+      (spoken-there _ _ _ (E .0 .0) (omega (arith, hb, p .0)) (p .0 .1 .1 .1 .0) (omega (arith, J .end)) (omega (arith, k, J .size)) (joined-is (x .work .now) (x .m .text .0) (x .m .top .0) (x .tag .0) _ _ (E .0 .0) hb he hv (E .1) J k), (omega (arith, J .size, hv), p .0 .1 .0 .1)),
     )
 
 -- src/close.rt:57:1
