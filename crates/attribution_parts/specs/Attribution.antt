@@ -1,4 +1,4 @@
--- Document 01, "Attributions": the caption of an attribution and its losses, from its parts ps.
+-- Document 01, "Attributions", as document 02's request 10/13 leaves it: the caption of an attribution and its losses, from its parts ps.
 --   first k ps      the index of the first usable field of kind k; the number of parts where there is none
 --   fieldOf k ps    its value; empty where there is none (a usable one is not empty)
 --   leading ps      1 where part 0 is a leading id, else 0
