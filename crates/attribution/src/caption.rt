@@ -22,7 +22,7 @@ use text::area::{put_in, put_sign_in, put_text_in, put_within};
 use text::cell::RULE_BLANK;
 
 // Where an attribution stands, and its joined texts.
-#[derive(Drop)]
+#[derive(Clone, Copy)]
 pub struct Words {
     pub from: WorkAt,
     pub to: WorkAt,
@@ -31,7 +31,7 @@ pub struct Words {
 }
 
 // Where a name stands.
-#[derive(Drop)]
+#[derive(Clone, Copy)]
 struct NamePlace {
     from: WorkAt,
     to: WorkAt,

@@ -1,4 +1,6 @@
 // Attributions: the name, the caption, and the operation on an attribution alone (document 01, "Attributions").
+#![tactic(auto)]
+
 ghost use Rattle.std.specs.Prelude.{◌≡◌, [], ◌*◌, ◌≤◌, length};
 ghost use Rattle.text.specs.Bounds.{text_most, Room};
 ghost use Rattle.attribution_parts.specs.Attribution.{losses};
@@ -19,7 +21,7 @@ use text::{TextAt, WorkAt};
 pub mod caption;
 
 // The caption's length, the number of losses and of loss bytes; or why there are none.
-#[derive(Drop)]
+#[derive(Clone, Copy)]
 pub enum Attributed {
     Done(usize, usize, usize),
     Refused(Refusal),

@@ -12,14 +12,14 @@ use attribution_reading::reader::read_part;
 use day::is_seconds;
 
 // How many losses there are, and how many bytes their fields have.
-#[derive(Drop)]
+#[derive(Clone, Copy)]
 pub struct Counts {
     pub losses: usize,
     pub bytes: usize,
 }
 
 // The bytes of a loss have been put up to `to`; the next part has this index and begins at `at`.
-#[derive(Drop)]
+#[derive(Clone, Copy)]
 pub struct Group {
     pub unnamed: u32,
     pub to: usize,

@@ -1,5 +1,7 @@
 // Attributions: document 01's rule as definitions, with its worked facts. The kinds of field that a caption is made of.
-#[derive(Drop)]
+#![tactic(auto)]
+
+#[derive(Clone, Copy)]
 pub enum Kind {
     Name,
     PostId,

@@ -26,7 +26,7 @@ const DATE: u32 = 4;
 const TIME: u32 = 5;
 
 // Where a field's value stands (no bytes: there is none), and the field's index.
-#[derive(Drop)]
+#[derive(Clone, Copy)]
 pub struct Field {
     pub from: usize,
     pub size: usize,
@@ -34,7 +34,7 @@ pub struct Field {
 }
 
 // The first usable field of each kind.
-#[derive(Drop)]
+#[derive(Clone, Copy)]
 pub struct Fields {
     pub name: Field,
     pub post: Field,
@@ -44,7 +44,7 @@ pub struct Fields {
 }
 
 // Where a leading id stands (no bytes: there is none); how many parts it takes, and where the next one begins.
-#[derive(Drop)]
+#[derive(Clone, Copy)]
 pub struct Lead {
     pub from: usize,
     pub size: usize,
@@ -53,14 +53,14 @@ pub struct Lead {
 }
 
 // Where the id of the caption stands (no bytes: there is none).
-#[derive(Drop)]
+#[derive(Clone, Copy)]
 pub struct IdPlace {
     pub from: usize,
     pub size: usize,
 }
 
 // What is read off an attribution.
-#[derive(Drop)]
+#[derive(Clone, Copy)]
 pub struct Facts {
     pub fields: Fields,
     pub lead: Lead,

@@ -5,7 +5,7 @@ ghost use Rattle.attribution_reading.specs.Places.{Scanned};
 
 use crate::scan::{Place, scan_at};
 
-#[derive(Drop)]
+#[derive(Clone, Copy)]
 pub struct Reader<'a> {
     pub attribution: &'a [u8],
     pub next: usize,

@@ -7,7 +7,7 @@ ghost use Rattle.attribution_reading.specs.Places.{RunAt, ValueAt, PartAt, Stand
 use text::scan::is_inside;
 
 // Where a value stands: from `from`, `size` bytes; `next` is the place behind it.
-#[derive(Drop)]
+#[derive(Clone, Copy)]
 pub struct Value {
     pub from: usize,
     pub size: usize,
@@ -15,7 +15,7 @@ pub struct Value {
 }
 
 // Where a part stands: its key from `key`, `keylen` bytes (0: a text, quoted where it does not begin at `key`), and its value.
-#[derive(Drop)]
+#[derive(Clone, Copy)]
 pub struct Place {
     pub key: usize,
     pub keylen: usize,

@@ -1,5 +1,7 @@
 // The operations for C and Rust: each returns document 01's number (0: done) and sets `counts` to the length, the number of marks or of
 // losses, and the loss bytes (0 where there is no such thing, and on a refusal).
+#![tactic(auto)]
+
 ghost use Rattle.std.specs.Prelude.{◌≡◌, [], ◌∷◌, ◌≤◌, length};
 ghost use Rattle.day.specs.Day.{number_of_answer, answer, output};
 ghost use Rattle.carve.specs.Counts.{day_counts, ListsReport, MarksReport, AttributionCountable, AttributionReported, AttributionReport, QuotesCountable, QuotesReported, QuotesReport, PostCountable, PostReported, PostReport};

@@ -1,4 +1,6 @@
 // Seconds since 1970 as a Gregorian day, YYYY-MM-DD.
+#![tactic(auto)]
+
 ghost use Rattle.std.specs.Prelude.{◌≡◌, true, ◌++◌, ◌+◌, ◌≤◌, ◌<◌, length, drop};
 ghost use Rattle.text.specs.Ascii.{all_digits};
 ghost use Rattle.day.specs.Day.{date_after, number, iso, is_seconds, day_of, answer, output};
@@ -7,7 +9,7 @@ use lending::lent::Refusal;
 use text::TextAt;
 use text::zero::zero8;
 
-#[derive(Drop)]
+#[derive(Clone, Copy)]
 pub struct Date {
     pub year: u64,
     pub month: u64,
@@ -15,7 +17,7 @@ pub struct Date {
 }
 
 // The answer of a call.
-#[derive(Drop)]
+#[derive(Clone, Copy)]
 pub enum Dated {
     Done,
     Refused(Refusal),

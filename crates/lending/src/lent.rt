@@ -9,7 +9,7 @@ use crate::utf8::{char_size, is_utf8};
 use text::bounds::{OUT_MOST, TEXT_MOST, numbers_size, work_size};
 use text::scan::{first_in_16, stands_in_16};
 
-#[derive(Drop)]
+#[derive(Clone, Copy)]
 pub enum Refusal {
     TextTooLong,
     SizesWrong,
@@ -23,14 +23,14 @@ pub enum Refusal {
 }
 
 // How many span numbers are lent: marks alone takes some.
-#[derive(Drop)]
+#[derive(Clone, Copy)]
 pub enum Spans {
     Without,
     Of(usize),
 }
 
 // The lengths of what is lent.
-#[derive(Drop)]
+#[derive(Clone, Copy)]
 pub struct Lent {
     pub out: usize,
     pub origins: usize,
@@ -39,7 +39,7 @@ pub struct Lent {
     pub spans: Spans,
 }
 
-#[derive(Drop)]
+#[derive(Clone, Copy)]
 pub enum Checked {
     Fine,
     Refused(Refusal),

@@ -11,7 +11,7 @@ use text::WorkAt;
 use text::trim::{trim_end, trim_start};
 
 // Where the text stands, and how many line feeds are held back.
-#[derive(Drop)]
+#[derive(Clone, Copy)]
 struct Next {
     at: WorkAt,
     held: usize,

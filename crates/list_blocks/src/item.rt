@@ -12,7 +12,7 @@ use text::cell::RULE_BLANK;
 use text::trim::{line_end, trim_end};
 
 // A list's kind: whether it is ordered, and whether it has the second marker of the two.
-#[derive(Drop)]
+#[derive(Clone, Copy)]
 pub struct Kind {
     pub ordered: bool,
     pub second: bool,

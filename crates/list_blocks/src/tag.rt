@@ -9,7 +9,7 @@ use text::cell::is_blank;
 use text::scan::{begins_at, byte_at, small_of};
 
 // The tag at a cell: `[list]` or, ordered, `[list=V]`, with the number of cells behind the `[`; `[*]`; `[/list]`; none.
-#[derive(Drop)]
+#[derive(Clone, Copy)]
 pub enum Tag {
     Opener(usize, bool),
     Item,

@@ -12,7 +12,7 @@ use text::trim::is_feed;
 
 // The areas of the pair of slices: all open contents stand from `base` up to `end`; behind them, in as much room as they have, the block of a list that
 // is closed is built; and the table of open lists stands in the numbers alone, from `table` on.
-#[derive(Drop)]
+#[derive(Clone, Copy)]
 pub struct Areas {
     pub base: WorkAt,
     pub end: WorkAt,
@@ -21,7 +21,7 @@ pub struct Areas {
 
 // The state in the slices: the contents end at `at`; the table ends at `top`, and its last frame stands at `first`; the next list that is
 // opened has the second marker.
-#[derive(Drop)]
+#[derive(Clone, Copy)]
 pub struct Machine {
     pub at: WorkAt,
     pub top: WorkAt,

@@ -17,7 +17,7 @@ use text::{PostAt, WorkAt, greater};
 
 // Where the text ends, and its need; or why there is none: its need is more than the room of the contents, or a list opener is met while as many
 // lists are open as may be.
-#[derive(Drop)]
+#[derive(Clone, Copy)]
 pub enum Passed {
     Done(WorkAt, usize),
     Full,

@@ -1,4 +1,6 @@
 // What the program `thread` lists of a converted post. A listing is appended to a pair of slices, as every text is; its bytes have no origins.
+#![tactic(auto)]
+
 ghost use Rattle.std.specs.Prelude.{◌≡◌, ◌≤◌, min, cond, eqb, length, take};
 ghost use Rattle.text.specs.Bounds.{out_most};
 ghost use Rattle.text.specs.Ascii.{ascii};

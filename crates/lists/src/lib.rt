@@ -1,4 +1,6 @@
 // Lists to Carve text (document 01, "Lists").
+#![tactic(auto)]
+
 ghost use Rattle.std.specs.Prelude.{◌≡◌, ◌+◌, ◌-◌, ◌≤◌, [], length};
 ghost use Rattle.text.specs.Bounds.{Room, number_most};
 ghost use Rattle.text.specs.Cells.{cells, part};
@@ -15,7 +17,7 @@ use text::source::set_cells;
 use text::write::{lay_nothing, lay_part};
 
 // The length of the text, or why there is none.
-#[derive(Drop)]
+#[derive(Clone, Copy)]
 pub enum Listed {
     Done(usize),
     Refused(Refusal),

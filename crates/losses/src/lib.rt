@@ -1,12 +1,14 @@
 // Loss records in the slice of structs that a caller lends (document 01, "Quotes"). The operations list losses as plain numbers, five a
 // loss, in work memory; `fill` alone writes records.
+#![tactic(auto)]
+
 ghost use Rattle.std.specs.Prelude.{◌≡◌, ◌*◌, ◌≤◌, length, take};
 ghost use Rattle.losses.specs.Records.{loss_at, records_lent};
 
 // A loss: the number of its quote from 1, the line, unnamed 0 or 1, and where its field stands in the loss bytes. Quote and line are 0 in a
 // call for an attribution alone.
 #[repr(C)]
-#[derive(Drop)]
+#[derive(Clone, Copy)]
 pub struct Loss {
     pub quote: u32,
     pub line: u32,

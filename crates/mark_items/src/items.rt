@@ -122,7 +122,7 @@ pub fn settle(nums: &mut [u32], n: usize, k: usize)
 }
 
 // The kinds open in a slot, as a mask, and how many marks are open, merged ones too.
-#[derive(Drop)]
+#[derive(Clone, Copy)]
 pub struct Open {
     pub mask: u32,
     pub depth: usize,

@@ -1,2 +1,4 @@
 // Tags to marks: the table of items, which marks are closed and which get a slot.
+#![tactic(auto)]
+
 pub mod items;

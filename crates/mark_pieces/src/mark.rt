@@ -108,7 +108,7 @@ fn put_span(spans: &mut [u32], c: usize, e: usize, start: usize, end: usize, by:
 
 // A mark whose closing delimiter is still to be written: where it starts and where its body ends, where its span is to be listed and where those
 // inside it end.
-#[derive(Drop)]
+#[derive(Clone, Copy)]
 pub struct Body {
     pub start: WorkAt,
     pub to: WorkAt,
@@ -117,7 +117,7 @@ pub struct Body {
 }
 
 // Where a mark ends, and whether it took the braced form.
-#[derive(Drop)]
+#[derive(Clone, Copy)]
 pub struct Closed {
     pub to: WorkAt,
     pub braces: bool,

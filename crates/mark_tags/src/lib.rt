@@ -1,2 +1,4 @@
 // Tags to marks: the definition of the pass, and reading tags.
+#![tactic(auto)]
+
 pub mod tags;

@@ -117,7 +117,7 @@ pub fn is_one_text(text: &[u8], nums: &[u32], k: usize, from: usize) -> bool
 }
 
 // An item: 0 the end of its slot; 1 a text from a up to e, and its last byte; 2 nothing is written up to an item; 3 a mark with content.
-#[derive(Drop)]
+#[derive(Clone, Copy)]
 pub struct Seen {
     pub what: usize,
     pub a: PostAt,

@@ -15,7 +15,7 @@ use text::{PostAt, WorkAt, in_work};
 
 // A text in work memory and the area that its marks are written into: `size` cells from `base` on, `items` items in the numbers behind them, and
 // the area before `end`.
-#[derive(Drop)]
+#[derive(Clone, Copy)]
 pub struct Layout {
     pub base: WorkAt,
     pub size: usize,
@@ -24,7 +24,7 @@ pub struct Layout {
 }
 
 // Where writing a slot ended: the item behind it, the place in the area, how many span numbers are listed.
-#[derive(Drop)]
+#[derive(Clone, Copy)]
 pub struct Went {
     pub item: usize,
     pub to: WorkAt,
@@ -33,7 +33,7 @@ pub struct Went {
 
 // A mark that is begun, in a slot where the kinds of a mask are open: the byte before it, its delimiter, where it starts, how many span numbers are
 // listed before it.
-#[derive(Drop)]
+#[derive(Clone, Copy)]
 pub struct Begun {
     pub mask: u32,
     pub before: usize,
@@ -43,7 +43,7 @@ pub struct Begun {
 }
 
 // Where writing a mark ended, and what it leaves for the next item: the last byte written, and whether a `}` is to be escaped.
-#[derive(Drop)]
+#[derive(Clone, Copy)]
 pub struct Drawn {
     pub item: usize,
     pub to: WorkAt,

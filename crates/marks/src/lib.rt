@@ -1,4 +1,6 @@
 // Tags to marks (document 01, "Tags to marks" and "Writing").
+#![tactic(auto)]
+
 ghost use Rattle.std.specs.Prelude.{◌*◌, ◌/◌, ◌≤◌, ◌≡◌, length, []};
 ghost use Rattle.text.specs.Bounds.{Room};
 ghost use Rattle.mark_tags.specs.Marks.{plain};
@@ -16,7 +18,7 @@ pub mod pass;
 pub mod untagged;
 
 // The length of the text and the number of its spans, or why there are none.
-#[derive(Drop)]
+#[derive(Clone, Copy)]
 pub enum Marked {
     Done(usize, usize),
     Refused(Refusal),

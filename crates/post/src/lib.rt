@@ -1,4 +1,6 @@
 // The whole post (document 01, "Whole post"): marks, then quotes, then lists.
+#![tactic(auto)]
+
 ghost use Rattle.std.specs.Prelude.{◌≡◌, ◌+◌, ◌*◌, ◌≤◌, length, take};
 ghost use Rattle.text.specs.Bounds.{text_most, out_most, Room, number_most};
 ghost use Rattle.text.specs.Cells.{cells};
@@ -27,7 +29,7 @@ pub mod listed;
 pub mod quoted;
 
 // The lengths of the text and of the loss bytes, with the number of losses between; or why there is no text.
-#[derive(Drop)]
+#[derive(Clone, Copy)]
 pub enum Posted {
     Done(usize, usize, usize),
     Refused(Refusal),

@@ -1,4 +1,6 @@
 // What the program `thread` prints of a post: the listing of the converted post, or why there is none.
+#![tactic(auto)]
+
 ghost use Rattle.std.specs.Prelude.{◌≡◌, ◌≤◌, min, length};
 ghost use Rattle.text.specs.Bounds.{out_most};
 ghost use Rattle.listing.specs.Listing.{Adds};
@@ -25,7 +27,7 @@ fn least(a: usize, b: usize) -> usize
 }
 
 // What is left of a call for a whole post where 64 records are lent: the answer and the records.
-#[derive(Drop)]
+#[derive(Clone, Copy)]
 pub struct Kept {
     pub answer: Posted,
     pub records: [Loss; 64],

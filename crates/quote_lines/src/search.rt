@@ -14,7 +14,7 @@ use text::source::set_source;
 use text::{PostAt, shorter};
 
 // A place in the text, the place of the next `]`, the line there, and how many tags stand in the table.
-#[derive(Drop)]
+#[derive(Clone, Copy)]
 pub struct Reading {
     pub at: PostAt,
     pub bracket: PostAt,
@@ -23,7 +23,7 @@ pub struct Reading {
 }
 
 // The line of a quote, and the tag that the next search begins at.
-#[derive(Drop)]
+#[derive(Clone, Copy)]
 pub struct Found {
     pub line: u32,
     pub next: usize,
@@ -143,7 +143,7 @@ fn put_tag(s: &[u8], numbers: &mut [u32], p: usize, line: usize, a: usize, size:
 }
 
 // A quote opener, its size and the place of the next `]`.
-#[derive(Drop)]
+#[derive(Clone, Copy)]
 pub struct Opener {
     pub at: PostAt,
     pub bracket: PostAt,
@@ -279,7 +279,7 @@ pub fn read_tags(s: &[u8], numbers: &mut [u32], t: usize) -> usize
 }
 
 // How many bytes a masked text has, and how many tags its table.
-#[derive(Drop)]
+#[derive(Clone, Copy)]
 pub struct Lines {
     pub size: usize,
     pub count: usize,

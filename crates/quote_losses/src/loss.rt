@@ -19,7 +19,7 @@ use text::scan::next_bracket;
 
 // A place in the text and the place of the next `]`; how many quotes are open there, one more than may be where that was ever so; the number of the
 // next quote, the tag that its search begins at, and the losses and loss bytes before the place.
-#[derive(Drop)]
+#[derive(Clone, Copy)]
 pub struct Listing {
     pub at: PostAt,
     pub bracket: PostAt,
@@ -104,7 +104,7 @@ fn list_token(
 }
 
 // How many losses a text has, and how many bytes their fields; and whether an opener is met while as many quotes are open as may be.
-#[derive(Drop)]
+#[derive(Clone, Copy)]
 pub struct Listed {
     pub losses: usize,
     pub bytes: usize,

@@ -18,7 +18,7 @@ use text::{PostAt, WorkAt};
 
 // Where the pass stands in work memory: its text before `text`, the open contents one behind another from `base` up to `end`, the block of a quote that
 // is closed from there up to `top`, and behind that, in the bytes alone, the joined texts of an attribution.
-#[derive(Drop)]
+#[derive(Clone, Copy)]
 pub struct Areas {
     pub text: WorkAt,
     pub base: WorkAt,
@@ -27,7 +27,7 @@ pub struct Areas {
 }
 
 // Where an attribution stands in the text.
-#[derive(Drop)]
+#[derive(Clone, Copy)]
 pub struct Extent {
     pub from: PostAt,
     pub to: PostAt,

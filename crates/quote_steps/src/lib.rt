@@ -1,3 +1,5 @@
 // The quote pass in work memory.
+#![tactic(auto)]
+
 pub mod close;
 pub mod pass;

@@ -13,7 +13,7 @@ use text::scan::next_bracket;
 use text::{PostAt, WorkAt, greater, in_work};
 
 // What is open behind a place of the text: the next `]`, where the contents end, and how many quotes.
-#[derive(Drop)]
+#[derive(Clone, Copy)]
 pub struct Open {
     pub at: PostAt,
     pub bracket: PostAt,
@@ -22,7 +22,7 @@ pub struct Open {
 }
 
 // What is open behind all of the text: where the contents end, how many quotes, and how many cells the contents had at most before.
-#[derive(Drop)]
+#[derive(Clone, Copy)]
 pub struct Reached {
     pub to: WorkAt,
     pub depth: usize,
@@ -30,7 +30,7 @@ pub struct Reached {
 }
 
 // Where the text ends that the pass writes, and its need; or the need exceeds the room.
-#[derive(Drop)]
+#[derive(Clone, Copy)]
 pub enum Passed {
     Done(WorkAt, usize),
     Full,

@@ -47,7 +47,7 @@ fn size_of_either(s: &[u8], at: PostAt, bracket: PostAt, first: &[u8], second: &
 }
 
 // The next closer, and the place from which on it is.
-#[derive(Drop)]
+#[derive(Clone, Copy)]
 pub struct Closer {
     pub from: PostAt,
     pub at: PostAt,
@@ -82,7 +82,7 @@ fn closer_from(
 }
 
 // The masked region at a place, 0 for none, and the next `]` and closer.
-#[derive(Drop)]
+#[derive(Clone, Copy)]
 pub struct Region {
     pub size: usize,
     pub bracket: PostAt,

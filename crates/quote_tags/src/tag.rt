@@ -176,7 +176,7 @@ pub fn closer_size(s: &[u8], at: PostAt, bracket: PostAt) -> usize
 }
 
 // The quote tag at a place: the size of an opener, of a closer, and the place of the next `]`, which is looked for only where a tag's word stands.
-#[derive(Drop)]
+#[derive(Clone, Copy)]
 pub struct Tag {
     pub opener: usize,
     pub closer: usize,

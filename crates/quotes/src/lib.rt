@@ -1,4 +1,6 @@
 // Quotes to Carve text (document 01, "Quotes").
+#![tactic(auto)]
+
 ghost use Rattle.std.specs.Prelude.{◌≡◌, [], ◌+◌, ◌-◌, ◌≤◌, length, take};
 ghost use Rattle.text.specs.Bounds.{text_most, Room};
 ghost use Rattle.text.specs.Cells.{cells, cells_of, part};
@@ -22,7 +24,7 @@ use text::zero::zero8;
 use text::{TextAt, WorkAt};
 
 // The length of the text, the number of losses and the length of the loss bytes; or why there is no text.
-#[derive(Drop)]
+#[derive(Clone, Copy)]
 pub enum Quoted {
     Done(usize, usize, usize),
     Refused(Refusal),

@@ -1,5 +1,7 @@
 // Replays data/cases: posts, each with the listing that it has to make (data/README.md says whose answers these are). Prints how many cases there are
 // and for how many of them the conversion makes the same listing, and before that each case where it makes another.
+#![tactic(auto)]
+
 mod cases;
 mod posts;
 

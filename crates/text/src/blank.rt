@@ -109,7 +109,7 @@ fn wide(b: u8) -> u32
 
 // The number of a byte's cell, as far as its character decides it: 1 where it is blank, else 0; and how many bytes are left of a blank
 // character behind the byte.
-#[derive(Drop)]
+#[derive(Clone, Copy)]
 pub struct Place {
     pub blank: u32,
     pub more: usize,

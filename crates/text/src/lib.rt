@@ -1,4 +1,6 @@
 // Text with origins: what every pass reads and writes.
+#![tactic(auto)]
+
 ghost use Rattle.std.specs.Prelude.{◌≡◌, ◌+◌, ◌≤◌, max, min};
 ghost use Rattle.text.specs.Bounds.{number_most};
 
@@ -14,15 +16,15 @@ pub mod write;
 pub mod zero;
 
 // A place in the post, or in the text that a pass reads.
-#[derive(Drop)]
+#[derive(Clone, Copy)]
 pub struct PostAt(pub usize);
 
 // A place in the text that is written.
-#[derive(Drop)]
+#[derive(Clone, Copy)]
 pub struct TextAt(pub usize);
 
 // A place in work memory: in work bytes, in work numbers, or in both.
-#[derive(Drop)]
+#[derive(Clone, Copy)]
 pub struct WorkAt(pub usize);
 
 // Where a place of a text stands in work memory, which has the text from `base` on.

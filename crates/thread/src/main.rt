@@ -1,4 +1,6 @@
 // Reads a post from standard input, converts it and prints the listing.
+#![tactic(auto)]
+
 use libc::{STDIN_FILENO, STDOUT_FILENO};
 use post_listing::list_thread;
 

@@ -1,5 +1,7 @@
 // Prints what `thread` prints of an empty post, of one that is refused, of one with losses in two quotes, of one with a list in a nested quote, and
 // of one that is too long.
+#![tactic(auto)]
+
 use libc::STDOUT_FILENO;
 use post_listing::list_thread;
 
