@@ -1,0 +1,5 @@
+use Prim.Native.Nat.{◌-◌}
+use Rattle.attribution.proofs.caption.has_more.Goals as goal
+
+pub returns : goal.returns
+returns c = rw c.if-dated.false

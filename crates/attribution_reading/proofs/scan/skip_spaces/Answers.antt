@@ -1,0 +1,19 @@
+use native.Mathlib.Omega.{arith}
+use mathlib.Core.Path.{sym, ap, ◌∙◌}
+use Prim.Native.Nat.{◌-◌}
+use mathlib.Core.Bool.{not}
+use Rattle.text.proofs.Bytes.{look, look-here, look-on, look-end}
+use Rattle.attribution_parts.specs.Parts.{is_space}
+use Rattle.attribution_reading.proofs.scan.skip_spaces.Goals as goal
+
+pub loop-i-init : goal.loop-i-init
+loop-i-init c = let a = c.args in look (λ b. not (is_space b)) a.s.now a.at c.requires
+
+pub loop-i-preserved : goal.loop-i-preserved
+loop-i-preserved c = let l = c.loop-i in let a = c.args in look-on (λ b. not (is_space b)) a.s.now a.at l.i l.invariant (omega arith) (ap not (sym c.is_space.ensures ∙ c.if-is_space.true))
+
+pub returns-else-is_space : goal.returns-else-is_space
+returns-else-is_space c = let l = c.loop-i in let a = c.args in let r = look-here (λ b. not (is_space b)) a.s.now a.at l.i l.invariant (omega arith) (ap not (sym c.is_space.ensures ∙ c.if-is_space.false)) in (r, omega arith)
+
+pub returns : goal.returns
+returns c = let l = c.loop-i in let a = c.args in (look-end (λ b. not (is_space b)) a.s.now a.at l.i l.invariant (omega arith), omega arith)

@@ -1,0 +1,11 @@
+use mathlib.Core.Path.{sym, ap, ◌∙◌}
+use mathlib.Core.Bool.{Bool, cond}
+use Prim.Native.Nat.{◌-◌}
+use Rattle.list_steps.specs.declared.pass.Passed.TheVariants.{Full, TooDeep}
+use Rattle.list_steps.proofs.pass.stopped.Goals as goal
+
+pub returns-then-too_deep : goal.returns-then-too_deep
+returns-then-too_deep c = sym (ap (λ (t : Bool). cond t TooDeep Full) (sym c.too_deep.ensures ∙ c.if-too_deep.true))
+
+pub returns : goal.returns
+returns c = sym (ap (λ (t : Bool). cond t TooDeep Full) (sym c.too_deep.ensures ∙ c.if-too_deep.false))

@@ -1,0 +1,25 @@
+use borrow.Author.Rules.{rules}
+use native.Mathlib.Omega.{arith}
+use Prim.Native.Nat.{◌-◌}
+use Rattle.list_steps.proofs.Steppings.{ready-base, keeps-step}
+use Rattle.text.proofs.Writing.{cells-le}
+use Rattle.list_steps.proofs.Outside.{stays-appends}
+use Rattle.list_steps.proofs.step.keep.Goals as goal
+
+pub overflow_add-e : goal.overflow_add-e
+overflow_add-e c = let p = c.requires in
+    let b = ready-base _ _ _ _ _ _ _ _ _ p.0 in
+    omega (arith, p.1, b, p.0.fits, p.0.within.1.0, p.0.within.1.1)
+
+pub copy_within-to-requires : goal.copy_within-to-requires
+copy_within-to-requires c = let p = c.requires in
+    let b = ready-base _ _ _ _ _ _ _ _ _ p.0 in
+    let f = p.0.fits in
+    ((omega arith, omega (arith, b, p.1)), (omega (arith, b, p.1, f), (p.0.within.0, p.0.within.1.0)))
+
+pub returns : goal.returns
+returns c = let p = c.requires in
+    let b = ready-base _ _ _ _ _ _ _ _ _ p.0 in
+    let f = p.0.fits in
+    let a = c.copy_within-to.ensures in
+    (keeps-step _ _ _ _ _ _ _ _ _ _ _ _ _ _ (cells-le _ _ _ (omega (arith, b, p.1, f, p.0.within.0)) (omega (arith, b, p.1, f, p.0.within.1.0))) (search rules) a, omega arith, stays-appends b (omega arith) a)

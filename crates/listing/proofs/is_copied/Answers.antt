@@ -1,0 +1,10 @@
+use mathlib.Core.Path.{sym}
+use Prim.Native.Nat.{◌-◌}
+use Rattle.text.proofs.Decide.{decide}
+use Rattle.listing.proofs.is_copied.Goals as goal
+
+pub returns-then-origin-eq0 : goal.returns-then-origin-eq0
+returns-then-origin-eq0 c = sym (search decide)
+
+pub returns : goal.returns
+returns c = sym (search decide)

@@ -1,0 +1,6 @@
+use Prim.Native.Nat.{◌-◌}
+use Rattle.listing.proofs.Laws.{adds-line}
+use Rattle.listing.proofs.put_line.Goals as goal
+
+pub returns : goal.returns
+returns c = adds-line _ _ c.put_plain-x.ensures c.put_escaped-y.ensures c.put_sign.ensures

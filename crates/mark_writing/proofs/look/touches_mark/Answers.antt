@@ -1,0 +1,22 @@
+use mathlib.Core.Path.{◌≡◌, refl, sym, ap, ◌∙◌}
+use mathlib.Core.Bool.{Bool, true, false}
+use Prim.Native.Nat.{ℕ, ◌-◌}
+use lib.ListN.{get_or}
+use Rattle.mark_tags.specs.Marks.{next, marked, touching}
+use Rattle.mark_tags.specs.Flat.{within, slot_at}
+use Rattle.mark_writing.proofs.look.touches_mark.Goals as goal
+
+never : (b : ℕ) (m r : Bool) → r ≡ touching true b → r ≡ false → touching false b ≡ touching m b
+never b true r e f = sym (sym e ∙ f)
+never b false r e f = refl
+
+pub next_of-next-requires : goal.next_of-next-requires
+next_of-next-requires c = c.requires.0
+
+pub returns-then-is_touching : goal.returns-then-is_touching
+returns-then-is_touching c = let a = c.args in
+    ap (λ (m : Bool). touching m (get_or a.text.now (a.e.0 - 1) 0)) c.next_of-next.ensures.touches
+
+pub returns : goal.returns
+returns c = let a = c.args in
+    never (get_or a.text.now (a.e.0 - 1) 0) (marked (next (within (slot_at a.text.now a.nums.now a.k a.from)))) _ c.is_touching.ensures c.if-is_touching.false

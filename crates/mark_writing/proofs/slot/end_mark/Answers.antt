@@ -1,0 +1,47 @@
+use native.Mathlib.Omega.{arith}
+use mathlib.Core.Path.{refl}
+use Prim.Native.Nat.{◌-◌}
+use lib.Seq.{length-take-le}
+use Rattle.mark_writing.proofs.SlotAsking.{ones-few, behind-ready, next_small}
+use Rattle.mark_writing.proofs.MarkWriting.{mark-full, mark-asks, mark-written}
+use Rattle.mark_writing.proofs.Inwards.{behind-none, area_same, table-in}
+use Rattle.mark_writing.proofs.slot.end_mark.Goals as goal
+
+pub returns-then-w-to : goal.returns-then-w-to
+returns-then-w-to c = let a = c.args in
+    let bh = c.requires.1.behind in
+    let ins = c.requires.1.inside in
+    let x = length-take-le a.w.end a.work.now (omega (arith, bh, ins)) in
+    let z = c.if-w-to.true in
+    (λ b. mark-full b (omega (arith, x, z)), behind-none _ _ _)
+
+pub overflow_cast-depth : goal.overflow_cast-depth
+overflow_cast-depth c = let f = ones-few c.args.mark.mask c.requires.0.ready.slot.small in omega arith
+
+pub overflow_sub-depth : goal.overflow_sub-depth
+overflow_sub-depth c = let f = ones-few c.args.mark.mask c.requires.0.ready.slot.small in omega arith
+
+pub next_at-next-requires : goal.next_at-next-requires
+next_at-next-requires c = let m = c.requires.0 in (behind-ready m.ready _ m.body.up_to m.body.behind, c.requires.1)
+
+pub finish_mark-closed-requires : goal.finish_mark-closed-requires
+finish_mark-closed-requires c = let a = c.args in
+    let bh = c.requires.1.behind in
+    let ins = c.requires.1.inside in
+    let x = length-take-le a.w.end a.work.now (omega (arith, bh, ins)) in
+    let z = c.if-w-to.false in
+    let h = (table-in a.w a.work.now a.numbers.now (c.requires.0.ready.slot.table, c.requires.1)).room in
+    (mark-asks c.requires.0 (omega (arith, x, z)) _ (next_small _ _ _ c.next_at-next.ensures c.next_byte.ensures), (omega (arith, bh, ins), omega (arith, h, bh)))
+
+pub returns : goal.returns
+returns c = let a = c.args in
+    let bh = c.requires.1.behind in
+    let ins = c.requires.1.inside in
+    let x = length-take-le a.w.end a.work.now (omega (arith, bh, ins)) in
+    let z = c.if-w-to.false in
+    let h = (table-in a.w a.work.now a.numbers.now (c.requires.0.ready.slot.table, c.requires.1)).room in
+    let closed = c.finish_mark-closed in (
+      λ b. mark-written b (omega (arith, x, z)) _ _ _ _ _ _ _ _ _ (area_same a.w.end a.work.now _ (omega (arith, bh, ins)) closed.auto.0) (area_same a.w.end a.numbers.now _ (omega (arith, h, bh)) closed.auto.1.0) closed.auto.1.1.1.0
+          c.next_at-next.ensures c.next_byte.ensures closed.ensures.finished c.last_of.ensures refl,
+      closed.ensures.behind,
+    )

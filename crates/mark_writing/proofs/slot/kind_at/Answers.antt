@@ -1,0 +1,27 @@
+use borrow.Author.Rules.{rules}
+use mathlib.Core.Path.{sym, ap}
+use Prim.Native.Nat.{ℕ, ◌+◌, ◌-◌}
+use lib.Seq.{get_or-drop}
+use Prim.Native.Nat.{◌*◌, ◌%◌}
+use Rattle.mark_writing.proofs.slot.kind_at.Goals as goal
+
+pub overflow_mul-result : goal.overflow_mul-result
+overflow_mul-result c = let t = c.requires.0 in let r = t.room in let s = t.small in let f = t.few in search rules
+
+pub overflow_add-result : goal.overflow_add-result
+overflow_add-result c = let t = c.requires.0 in let r = t.room in let s = t.small in let f = t.few in search rules
+
+pub overflow_add-result-2 : goal.overflow_add-result-2
+overflow_add-result-2 c = let t = c.requires.0 in let r = t.room in let s = t.small in let f = t.few in search rules
+
+pub overflow_add-result-3 : goal.overflow_add-result-3
+overflow_add-result-3 c = let t = c.requires.0 in let r = t.room in let s = t.small in let f = t.few in search rules
+
+pub offset_bounds-numbers-base : goal.offset_bounds-numbers-base
+offset_bounds-numbers-base c = let t = c.requires.0 in let r = t.room in let s = t.small in let f = t.few in search rules
+
+pub bounds-numbers-base : goal.bounds-numbers-base
+bounds-numbers-base c = let t = c.requires.0 in let r = t.room in let s = t.small in let f = t.few in search rules
+
+pub returns : goal.returns
+returns c = let a = c.args in ap (λ (x : ℕ). x % 4) (sym (get_or-drop a.w.base.0 a.numbers.now (2 * a.w.size + 2 + a.i) 0))

@@ -1,0 +1,18 @@
+use native.Mathlib.Omega.{arith}
+use mathlib.Core.Path.{sym, ◌∙◌}
+use Prim.Native.Nat.{◌-◌}
+use Rattle.lending.proofs.Sizes.{enough}
+use Rattle.marks.proofs.Conversion.{called-refused, called-fine, spans-enough}
+use Rattle.marks.proofs.convert_marks.Goals as goal
+
+pub convert-requires : goal.convert-requires
+convert-requires c = let fine = sym c.check-checked.ensures ∙ c.enum_told-1.given.1 in
+    let h = enough _ _ fine in
+    let s = spans-enough _ _ _ _ _ _ fine in
+    omega arith
+
+pub returns-in-Refused : goal.returns-in-Refused
+returns-in-Refused c = called-refused _ _ _ _ _ _ _ _ c.check-checked.ensures _ c.checked-1.given.1 c.refuse.ensures.0 c.refuse.ensures.1
+
+pub returns-in-Fine : goal.returns-in-Fine
+returns-in-Fine c = called-fine _ _ _ _ _ _ _ _ c.check-checked.ensures c.enum_told-1.given.1 c.convert.ensures

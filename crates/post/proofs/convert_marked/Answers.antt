@@ -1,0 +1,54 @@
+use native.Mathlib.Omega.{arith}
+use mathlib.Core.Path.{sym}
+use Prim.Native.Nat.{◌-◌, ◌≤◌}
+use lib.ListN.{length}
+use Rattle.post.proofs.Unchanged.{unquoted-finishes}
+use Rattle.post.proofs.Calling.{part-size}
+use Rattle.list_blocks.proofs.Pushes.{pushes-length}
+use Rattle.text.proofs.Clearing.{cells-bytes}
+use Rattle.text.proofs.Areas.{area-length}
+use Rattle.text.specs.Cells.{cells, part}
+use lib.Seq.{length-take-le}
+use lib.ListN.{take}
+use Rattle.post.proofs.convert_marked.Goals as goal
+
+pub slice_bounds-no_quotes-end : goal.slice_bounds-no_quotes-end
+slice_bounds-no_quotes-end c = let M = c.requires in omega (arith, M.near, M.room)
+
+pub slice_bounds-no_quotes-end-2 : goal.slice_bounds-no_quotes-end-2
+slice_bounds-no_quotes-end-2 c = let x = c.args in
+    let M = c.requires in
+    sym (length-take-le x.k x.work.now (omega (arith, M.near, M.room)))
+
+pub work_size-requires : goal.work_size-requires
+work_size-requires c = let M = c.requires in M.room.0
+
+pub write_unquoted-requires : goal.write_unquoted-requires
+write_unquoted-requires c = let x = c.args in
+    let M = c.requires in
+    let s = c.work_size.ensures in
+    let hb : x.k ≤ length x.work.now = omega (arith, M.near, M.room) in
+    let hn : x.k ≤ length x.numbers.now = omega (arith, M.near, M.room) in
+    let l = part-size 0 x.k x.work.now x.numbers.now (omega arith) hb hn in
+    let h = pushes-length (part 0 x.k (cells x.work.now x.numbers.now)) in
+    record {
+      order = (omega arith, omega (arith, M.near.0));
+      lendable = (M.room.0.1, M.plainly);
+      areas = (omega (arith, M.near, M.room.1.0), omega (arith, s, M.near));
+      room = omega (arith, s, h, l, M.near, M.room.1.1);
+      small = M.small;
+    }
+
+pub returns-then-no_quotes : goal.returns-then-no_quotes
+returns-then-no_quotes c = let x = c.args in
+    let M = c.requires in
+    let hb : x.k ≤ length x.work.now = omega (arith, M.near, M.room) in
+    let hn : x.k ≤ length x.numbers.now = omega (arith, M.near, M.room) in
+    let l = area-length x.work.now x.numbers.now x.k hb hn in
+    unquoted-finishes (take x.k (cells x.work.now x.numbers.now)) (take x.k x.work.now) (length x.out.now) (cells-bytes x.k x.work.now x.numbers.now hb hn) (omega (arith, l, M.near.0)) (c.no_quotes.ensures c.if-no_quotes.true) x.post.now x.lent _ c.write_unquoted.ensures
+
+pub convert_quoted-requires : goal.convert_quoted-requires
+convert_quoted-requires c = c.requires
+
+pub returns : goal.returns
+returns c = c.convert_quoted.ensures

@@ -1,0 +1,82 @@
+use native.Mathlib.Omega.{arith}
+use mathlib.Core.Path.{sym, ap, ◌∙◌}
+use Prim.Native.Nat.{ℕ, ◌-◌}
+use lib.ListN.{length}
+use Rattle.post.proofs.Calling.{ends-refused, ends_as, quoting-full, quoting-done, lent-before, stays-behind, stays-in, quotable-room, quoted-there}
+use Rattle.quotes.proofs.Conversion.{quoted-within}
+use Rattle.quote_blocks.specs.Quotes.{too_deep}
+use lib.Seq.{length-take-le}
+use Rattle.post.proofs.quoted.write_quotes.Goals as goal
+
+pub overflow_mul-table : goal.overflow_mul-table
+overflow_mul-table c = let Q = c.requires.0 in let h = quotable-room Q in omega (arith, h, Q.room, Q.small)
+
+pub overflow_add-table : goal.overflow_add-table
+overflow_add-table c = let Q = c.requires.0 in let h = quotable-room Q in omega (arith, h, Q.room, Q.small)
+
+pub overflow_add-areas : goal.overflow_add-areas
+overflow_add-areas c = let Q = c.requires.0 in omega (arith, Q.areas, Q.room, Q.small)
+
+pub overflow_add-areas-2 : goal.overflow_add-areas-2
+overflow_add-areas-2 c = let Q = c.requires.0 in omega (arith, Q.areas, Q.room, Q.small)
+
+pub overflow_add-areas-3 : goal.overflow_add-areas-3
+overflow_add-areas-3 c = let Q = c.requires.0 in omega (arith, Q.areas, Q.room, Q.small)
+
+pub slice_bounds-quote_pass-end : goal.slice_bounds-quote_pass-end
+slice_bounds-quote_pass-end c = let Q = c.requires.0 in omega (arith, Q.room)
+
+pub slice_bounds-quote_pass-end-2 : goal.slice_bounds-quote_pass-end-2
+slice_bounds-quote_pass-end-2 c = let x = c.args in
+    let Q = c.requires.0 in
+    sym (length-take-le x.records.0 x.numbers.now (omega (arith, Q.room)))
+
+pub quote_pass-passed-requires : goal.quote_pass-passed-requires
+quote_pass-passed-requires c = let x = c.args in
+    let Q = c.requires.0 in
+    let l = length-take-le x.records.0 x.numbers.now (omega (arith, Q.room)) in
+    (((omega arith, omega arith), ((omega (arith, Q.areas.0), omega (arith, l, Q.areas.1)), (omega arith, (omega arith, omega (arith, Q.near, Q.lendable.0))))), ap too_deep (lent-before x.k x.records.0 x.work.now x.numbers.now (omega (arith, Q.areas.1))) ∙ Q.shallow)
+
+pub write_lists-requires : goal.write_lists-requires
+write_lists-requires c = let x = c.args in
+    let p = c.requires in
+    let Q = p.0 in
+    let m : ℕ = length x.out.now in
+    let q = c.quote_pass-passed in
+    let l = length-take-le x.records.0 x.numbers.now (omega (arith, Q.room)) in
+    let d = rw c.passed-1.given.1 at q.ensures in
+    let w = quoted-within _ _ _ _ d.0.0 d.1.0 in
+    let e = quoted-there x.k m x.records.0 _ x.work.now x.numbers.now _ _ (omega (arith, Q.areas.1)) (q.auto.1.0 ∙ l) w.1 (omega (arith, Q.areas.1)) d.1.1 in
+    let h = quotable-room Q in (
+      record {
+        order = w;
+        lendable = Q.lendable;
+        areas = (omega (arith, w.1, Q.areas.0, q.auto.0), omega (arith, w.1, Q.areas.1));
+        room = rw e (omega (arith, h, Q.room, q.auto.1.0));
+        small = omega (arith, Q.small, q.auto.1.0);
+      },
+      p.1,
+    )
+
+pub returns-in-Full : goal.returns-in-Full
+returns-in-Full c = let x = c.args in
+    let Q = c.requires.0 in
+    let q = c.quote_pass-passed in
+    let l = length-take-le x.records.0 x.numbers.now (omega (arith, Q.room)) in
+    let f = rw (lent-before x.k x.records.0 x.work.now x.numbers.now (omega (arith, Q.areas.1))) at (rw c.enum_told-1.given.1 at q.ensures) in
+    let r = c.refuse.ensures in
+    (ends-refused _ (quoting-full _ _ _ _ (omega (arith, f))) r.0 r.1, stays-behind x.records.0 x.records.0 _ x.numbers.now q.new.1.0 (q.auto.1.0 ∙ l) (omega arith) (omega (arith, Q.room)))
+
+pub returns-in-Done : goal.returns-in-Done
+returns-in-Done c = let x = c.args in
+    let Q = c.requires.0 in
+    let m : ℕ = length x.out.now in
+    let q = c.quote_pass-passed in
+    let l = length-take-le x.records.0 x.numbers.now (omega (arith, Q.room)) in
+    let b = lent-before x.k x.records.0 x.work.now x.numbers.now (omega (arith, Q.areas.1)) in
+    let d = rw c.passed-1.given.1 at q.ensures in
+    let w = quoted-within _ _ _ _ d.0.0 d.1.0 in
+    let e = quoted-there x.k m x.records.0 _ x.work.now x.numbers.now _ _ (omega (arith, Q.areas.1)) (q.auto.1.0 ∙ l) w.1 (omega (arith, Q.areas.1)) d.1.1 in
+    let n = rw b at d.0.0 in
+    let r = c.write_lists.ensures in
+    (ends_as (rw e at r.0) (quoting-done _ _ _ _ (omega (arith, n))), stays-in _ _ x.records.0 _ _ _ (omega (arith, w.1, Q.areas.1)) (omega arith) r.1 ∙ stays-behind x.records.0 x.records.0 _ x.numbers.now q.new.1.0 (q.auto.1.0 ∙ l) (omega arith) (omega (arith, Q.room)))

@@ -1,0 +1,17 @@
+use Prim.Native.Nat.{◌-◌}
+use lib.ListN.{length}
+use lib.Dec.{eqb}
+use Rattle.text.proofs.Bytes.{Looks}
+use Rattle.quote_lines.proofs.weights.next_number.Given as goal
+
+abbrev pub invariant-loop-i : goal.invariant-loop-i
+invariant-loop-i l = Looks (λ x. eqb x l.n) l.numbers l.at l.i
+
+abbrev pub decreases-loop-i : goal.decreases-loop-i
+decreases-loop-i l = length l.numbers - l.i
+
+abbrev pub invariant-loop-i-2 : goal.invariant-loop-i-2
+invariant-loop-i-2 l = Looks (λ x. eqb x l.n) l.numbers l.at l.i
+
+abbrev pub decreases-loop-i-2 : goal.decreases-loop-i-2
+decreases-loop-i-2 l = length l.numbers - l.i

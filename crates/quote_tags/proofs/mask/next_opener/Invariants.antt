@@ -1,0 +1,11 @@
+use Prim.Native.Nat.{◌-◌}
+use lib.ListN.{length}
+use Rattle.quote_tags.specs.Masks.{NoOpener}
+use Rattle.quote_tags.proofs.Places.{Run}
+use Rattle.quote_tags.proofs.mask.next_opener.Given as goal
+
+abbrev pub invariant-loop-i : goal.invariant-loop-i
+invariant-loop-i l = Run (NoOpener l.letter2 l.letter3) l.s l.initial.i l.i
+
+abbrev pub decreases-loop-i : goal.decreases-loop-i
+decreases-loop-i l = length l.s - l.i

@@ -1,0 +1,18 @@
+use borrow.Author.Rules.{rules}
+use native.Mathlib.Omega.{arith}
+use mathlib.Core.Path.{refl}
+use Prim.Native.Nat.{◌-◌}
+use Rattle.quote_tags.specs.Masks.{NoOpener}
+use Rattle.quote_tags.proofs.Unmasking.{block-turn}
+use Rattle.quote_tags.proofs.mask.opener_in_32.Goals as goal
+
+pub loop-k-init : goal.loop-k-init
+loop-k-init c = (search rules, λ _ j h l. absurd (omega arith))
+
+pub loop-k-preserved : goal.loop-k-preserved
+loop-k-preserved c = let l = c.loop-k in
+    let a = c.args in
+    (search rules, block-turn (NoOpener a.letter2 a.letter3) a.s.now c.may_open_by-stands.ensures a.i l.k l.stands l.invariant.1 refl refl refl)
+
+pub returns : goal.returns
+returns c = let l = c.loop-k in λ z j h g. l.invariant.1 z j h (omega arith)

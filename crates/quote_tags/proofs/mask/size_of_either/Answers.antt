@@ -1,0 +1,10 @@
+use mathlib.Core.Path.{sym, ◌∙◌}
+use Prim.Native.Nat.{◌-◌}
+use Rattle.quote_tags.proofs.Tagging.{tag_is, tag-not}
+use Rattle.quote_tags.proofs.mask.size_of_either.Goals as goal
+
+pub returns-then-begins_either : goal.returns-then-begins_either
+returns-then-begins_either c = tag_is _ _ (sym c.begins_either.ensures ∙ c.if-begins_either.true) c.up_to_bracket.ensures
+
+pub returns : goal.returns
+returns c = tag-not _ _ (sym c.begins_either.ensures ∙ c.if-begins_either.false)

@@ -1,0 +1,7 @@
+use mathlib.Core.Path.{◌∙◌}
+use Prim.Native.Nat.{◌-◌}
+use Rattle.text.proofs.Clearing.{cleared-all}
+use Rattle.text.proofs.write.lay_nothing.Goals as goal
+
+pub returns : goal.returns
+returns c = record { text = c.zero8.ensures ∙ cleared-all _; from = c.zero32.ensures ∙ cleared-all _ }
