@@ -4,7 +4,7 @@ use mathlib.Core.Bool.{Bool, true, false, cond, ◌&&◌}
 use mathlib.Core.List.{List, [], ◌∷◌, ◌++◌, map}
 use Prim.Native.Nat.{ℕ}
 use lib.Dec.{eqb}
-use Rattle.text.specs.Cells.{Cell, cells_from, written, feed}
+use Rattle.text.specs.Cells.{Cell, more_after, cells_from, written, feed}
 use Rattle.text.specs.Lines.{trim_start, trim_onto, trim_end, trim, is_feed, line_onto, lines, followed, joined}
 use Rattle.text.specs.Split.{Split, done, copied, consumed, lost, wrote, Keeps}
 
@@ -70,7 +70,7 @@ copying (wrote c h r) x = wrote c h (copying r x)
 from_zero : (more : ℕ) (s : List ℕ) → Keeps (cells_from (λ o. o) 0 more s) []
 unfolding cells_from
 from_zero more [] = done
-from_zero more (b ∷ s) = wrote _ refl (from_zero _ s)
+from_zero more (b ∷ s) = wrote _ refl (from_zero (more_after more (b ∷ s)) s)
 
 pub written_keeps : (s : List ℕ) → Keeps (written s) []
 unfolding written

@@ -1,7 +1,6 @@
 use borrow.Author.Rules.{rules}
 use native.Mathlib.Omega.{arith}
 use mathlib.Core.Path.{refl}
-use Prim.Native.Nat.{◌-◌}
 use native.Mathlib.Nat.{le_antisymm}
 use Rattle.text.proofs.Writing.{part_none}
 use Rattle.text.proofs.Areas.{appends_in-none, appends_in-set, appends_in-pasted, part-over, apart-turn}

@@ -1,7 +1,6 @@
 use borrow.Author.Rules.{rules}
 use native.Mathlib.Omega.{arith}
 use mathlib.Core.Path.{refl}
-use Prim.Native.Nat.{◌-◌}
 use Rattle.text.proofs.Numbering.{written_start, written-turn, from_end}
 use Rattle.text.proofs.Areas.{start_in, more_in, done_in}
 use Rattle.text.proofs.area.put_text_in.Goals as goal

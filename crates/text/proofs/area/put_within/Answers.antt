@@ -1,7 +1,6 @@
 use borrow.Author.Rules.{rules}
 use native.Mathlib.Omega.{arith}
 use mathlib.Core.Path.{refl, sym}
-use Prim.Native.Nat.{◌-◌}
 use lib.Seq.{length-take-le}
 use Rattle.text.proofs.Areas.{WritingIn, start_in, more_in, done_in, within_text, within-text-start, within-text-end}
 use Rattle.text.proofs.area.put_within.Goals as goal

@@ -1,4 +1,3 @@
-use Prim.Native.Nat.{◌-◌}
 use Rattle.text.proofs.Characters.{blank-at}
 use Rattle.text.proofs.blank.blank_size.Goals as goal
 

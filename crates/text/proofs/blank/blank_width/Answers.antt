@@ -1,5 +1,4 @@
 use mathlib.Core.Path.{sym}
-use Prim.Native.Nat.{◌-◌}
 use Rattle.text.specs.Blanks.{blank_width}
 use Rattle.text.proofs.Decide.{decide}
 use Rattle.text.proofs.blank.blank_width.Goals as goal

@@ -1,5 +1,4 @@
 use mathlib.Core.Path.{sym}
-use Prim.Native.Nat.{◌-◌}
 use Rattle.text.specs.Blanks.{blank1}
 use Rattle.text.proofs.Decide.{decide}
 use Rattle.text.proofs.blank.is_blank1.Goals as goal

@@ -1,6 +1,5 @@
 use borrow.Author.Rules.{rules}
 use mathlib.Core.Path.{refl, sym, ◌∙◌}
-use Prim.Native.Nat.{◌-◌}
 use Rattle.text.proofs.Numbering.{numbered-start, numbered-end}
 use Rattle.text.proofs.blank.number.Goals as goal
 

@@ -1,7 +1,6 @@
 use borrow.Author.Rules.{rules}
 use native.Mathlib.Omega.{arith}
 use mathlib.Core.Path.{refl, ◌∙◌}
-use Prim.Native.Nat.{◌-◌}
 use Rattle.text.proofs.Numbering.{placed-small, numbered-turn, numbered-cut}
 use lib.ListN.{length-set}
 use Rattle.text.proofs.blank.number_part.Goals as goal

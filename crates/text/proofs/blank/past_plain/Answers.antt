@@ -1,7 +1,6 @@
 use borrow.Author.Rules.{rules}
 use native.Mathlib.Omega.{arith}
 use mathlib.Core.Path.{sym, ◌∙◌}
-use Prim.Native.Nat.{◌-◌}
 use borrow.Author.Tests.{ltb-false}
 use Rattle.text.proofs.Bytes.{look, look-past}
 use Rattle.text.proofs.Characters.{lead}

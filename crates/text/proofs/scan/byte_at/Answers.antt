@@ -1,6 +1,5 @@
 use native.Mathlib.Omega.{arith}
 use mathlib.Core.Path.{sym}
-use Prim.Native.Nat.{◌-◌}
 use lib.ListN.{get_or-eq_default}
 use Rattle.text.proofs.scan.byte_at.Goals as goal
 

@@ -1,5 +1,4 @@
 use mathlib.Core.Path.{sym}
-use Prim.Native.Nat.{◌-◌}
 use Rattle.text.specs.Ascii.{inside}
 use Rattle.text.proofs.Decide.{decide}
 use Rattle.text.proofs.scan.is_inside.Goals as goal

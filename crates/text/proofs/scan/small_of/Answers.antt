@@ -1,6 +1,5 @@
 use native.Mathlib.Omega.{arith}
 use mathlib.Core.Path.{sym, ◌∙◌}
-use Prim.Native.Nat.{◌-◌}
 use Rattle.text.proofs.Bytes.{inside-true}
 use Rattle.text.specs.Ascii.{small}
 use Rattle.text.proofs.Decide.{decide}

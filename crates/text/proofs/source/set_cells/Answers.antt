@@ -1,6 +1,5 @@
 use borrow.Author.Rules.{rules}
 use native.Mathlib.Omega.{arith}
-use Prim.Native.Nat.{◌-◌}
 use Rattle.text.proofs.Sources.{back_is, source-at}
 use Rattle.text.proofs.source.set_cells.Goals as goal
 

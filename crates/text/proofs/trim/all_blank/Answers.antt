@@ -1,9 +1,7 @@
 use borrow.Author.Rules.{rules}
 use native.Mathlib.Omega.{arith}
 use mathlib.Core.Path.{refl, sym, ◌∙◌}
-use Prim.Native.Nat.{◌-◌}
 use Rattle.text.proofs.Trimming.{all_blank-blank, all_blank-other, all_blank-end}
-use Rattle.text.specs.Cells.{is_blank}
 use Rattle.text.proofs.trim.all_blank.Goals as goal
 
 pub loop-i-init : goal.loop-i-init

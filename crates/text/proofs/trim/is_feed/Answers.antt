@@ -1,5 +1,4 @@
 use mathlib.Core.Path.{sym}
-use Prim.Native.Nat.{◌-◌}
 use Rattle.text.specs.Lines.{is_feed}
 use Rattle.text.proofs.Decide.{decide}
 use mathlib.Core.Path.{◌∙◌}

@@ -1,7 +1,6 @@
 use borrow.Author.Rules.{rules}
 use native.Mathlib.Omega.{arith}
 use mathlib.Core.Path.{sym, ◌∙◌}
-use Prim.Native.Nat.{◌-◌}
 use lib.Seq.{length-take-le}
 use Rattle.text.proofs.Trimming.{lines_none, lines-on, lines-feed, lines-last}
 use Rattle.text.proofs.trim.line_end.Goals as goal

@@ -1,7 +1,6 @@
 use borrow.Author.Rules.{rules}
 use native.Mathlib.Omega.{arith}
 use mathlib.Core.Path.{refl, sym, ◌∙◌}
-use Prim.Native.Nat.{◌-◌}
 use Rattle.text.proofs.Trimming.{trim_start-blank, trim_start-other, trim_start-end}
 use Rattle.text.proofs.trim.trim_start.Goals as goal
 

@@ -1,7 +1,6 @@
 use borrow.Author.Rules.{rules}
 use native.Mathlib.Omega.{arith}
 use mathlib.Core.Path.{◌≡◌, refl, sym, ap, ◌∙◌}
-use Prim.Native.Nat.{◌-◌}
 use lib.ListN.{length}
 use lib.ListN.{take, length-set}
 use Rattle.text.proofs.Clearing.{laid-turn, laid-cleared, length-mapped, map_same}

@@ -1,5 +1,4 @@
 use mathlib.Core.Path.{◌∙◌}
-use Prim.Native.Nat.{◌-◌}
 use Rattle.text.proofs.Clearing.{cleared-all}
 use Rattle.text.proofs.write.lay_nothing.Goals as goal
 

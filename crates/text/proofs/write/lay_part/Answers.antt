@@ -1,5 +1,4 @@
 use native.Mathlib.Omega.{arith}
-use Prim.Native.Nat.{◌-◌}
 use Rattle.text.proofs.Sources.{part-laid}
 use Rattle.text.proofs.write.lay_part.Goals as goal
 

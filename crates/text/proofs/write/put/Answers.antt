@@ -1,5 +1,4 @@
 use native.Mathlib.Omega.{arith}
-use Prim.Native.Nat.{◌-◌}
 use Rattle.text.proofs.Writing.{cells-set, cells_in, cells-short, cells-short₂, appends-set, appends-full}
 use Rattle.text.specs.Cells.{cell, cells}
 use Rattle.text.proofs.write.put.Goals as goal

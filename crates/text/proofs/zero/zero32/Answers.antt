@@ -1,6 +1,5 @@
 use native.Mathlib.Omega.{arith}
 use mathlib.Core.Path.{refl, ◌∙◌}
-use Prim.Native.Nat.{◌-◌}
 use lib.ListN.{length-set}
 use Rattle.text.proofs.Clearing.{cleared-step, cleared-done}
 use Rattle.text.proofs.zero.zero32.Goals as goal
