@@ -1,5 +1,4 @@
 use mathlib.Core.Path.{sym}
-use Prim.Native.Nat.{◌-◌}
 use Rattle.quote_tags.proofs.Tagging.{any_here, any-later, any_last}
 use Rattle.quote_tags.proofs.mask.begins_either.Goals as goal
 

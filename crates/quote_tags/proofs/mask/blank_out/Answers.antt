@@ -1,5 +1,4 @@
 use native.Mathlib.Omega.{arith}
-use Prim.Native.Nat.{◌-◌}
 use Rattle.quote_tags.proofs.Masking.{blanked-by}
 use Rattle.quote_tags.proofs.Moving.{moving, moving-on, moving-end}
 use Rattle.quote_tags.proofs.mask.blank_out.Goals as goal
@@ -14,7 +13,7 @@ pub bounds-buf-t : goal.bounds-buf-t
 bounds-buf-t c = let l = c.loop-i in let p = c.requires in omega (arith, l.invariant.same, l.invariant.done.short, l.invariant.order, p.0, p.1.1, c.loop-i-test.true)
 
 pub overflow_add-t : goal.overflow_add-t
-overflow_add-t c = let l = c.loop-i in let p = c.requires in let y = blanked-by _ c.characters_by-t.ensures c.blank_for.ensures in omega (arith, y.0, l.invariant.done.short, l.invariant.order, p.0, p.1.1, c.loop-i-test.true, c.well-formed.0)
+overflow_add-t c = let l = c.loop-i in let p = c.requires in let y = blanked-by _ c.characters_by-t.ensures c.blank_for.ensures in omega (arith, y.0, l.invariant.done.short, l.invariant.order, p.0, p.1.1, c.loop-i-test.true)
 
 pub loop-i-preserved : goal.loop-i-preserved
 loop-i-preserved c = let l = c.loop-i in let p = c.requires in let y = blanked-by _ c.characters_by-t.ensures c.blank_for.ensures in moving-on l.invariant p.0 p.1.1 c.loop-i-test.true _ _ y

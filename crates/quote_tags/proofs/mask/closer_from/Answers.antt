@@ -1,4 +1,3 @@
-use Prim.Native.Nat.{◌-◌}
 use Rattle.quote_tags.proofs.Masking.{known-closer}
 use Rattle.quote_tags.proofs.mask.closer_from.Goals as goal
 

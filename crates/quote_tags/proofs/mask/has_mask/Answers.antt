@@ -1,6 +1,5 @@
 use borrow.Author.Rules.{rules}
 use native.Mathlib.Omega.{arith}
-use Prim.Native.Nat.{◌-◌}
 use lib.ListN.{drop}
 use mathlib.Core.Bool.{true≢false}
 use Rattle.quote_tags.specs.Masks.{NoMask}

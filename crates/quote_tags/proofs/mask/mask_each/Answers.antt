@@ -1,7 +1,6 @@
 use borrow.Author.Rules.{rules}
 use native.Mathlib.Omega.{arith}
 use mathlib.Core.Path.{◌∙◌}
-use Prim.Native.Nat.{◌-◌}
 use Rattle.quote_tags.proofs.Masking.{visible-by, region-same, masked_same, any_twice, same-any}
 use Rattle.quote_tags.proofs.Unmasking.{code-by-c, icode-by-c, noparse-by-n}
 use Rattle.quote_tags.specs.Masks.{code, icode, noparse}

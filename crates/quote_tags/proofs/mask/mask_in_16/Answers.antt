@@ -1,7 +1,6 @@
 use borrow.Author.Rules.{rules}
 use native.Mathlib.Omega.{arith}
 use mathlib.Core.Path.{refl}
-use Prim.Native.Nat.{◌-◌}
 use Rattle.quote_tags.specs.Masks.{NoMask}
 use Rattle.quote_tags.proofs.Unmasking.{block-turn}
 use Rattle.quote_tags.proofs.mask.mask_in_16.Goals as goal

@@ -1,4 +1,3 @@
-use Prim.Native.Nat.{◌-◌}
 use Rattle.quote_tags.proofs.Unmasking.{not-open}
 use Rattle.quote_tags.proofs.mask.may_open.Goals as goal
 

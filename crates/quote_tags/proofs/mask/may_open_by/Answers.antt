@@ -1,4 +1,3 @@
-use Prim.Native.Nat.{◌-◌}
 use Rattle.quote_tags.proofs.Unmasking.{not-open-by}
 use Rattle.quote_tags.proofs.mask.may_open_by.Goals as goal
 

@@ -1,6 +1,5 @@
 use native.Mathlib.Omega.{arith}
 use mathlib.Core.Path.{refl}
-use Prim.Native.Nat.{◌-◌}
 use Rattle.quote_tags.proofs.Moving.{moved_none, moving, moving-on, moving-end}
 use Rattle.quote_tags.proofs.mask.move_down.Goals as goal
 
@@ -17,7 +16,7 @@ pub bounds-buf-t : goal.bounds-buf-t
 bounds-buf-t c = let l = c.loop-i in omega (arith, l.invariant.same, l.invariant.done.short, l.invariant.order, c.requires.0, c.requires.1.1, c.loop-i-test.true)
 
 pub overflow_add-t : goal.overflow_add-t
-overflow_add-t c = let l = c.loop-i in omega (arith, l.invariant.done.short, l.invariant.order, c.requires.0, c.requires.1.1, c.loop-i-test.true, c.well-formed.0)
+overflow_add-t c = let l = c.loop-i in omega (arith, l.invariant.done.short, l.invariant.order, c.requires.0, c.requires.1.1, c.loop-i-test.true)
 
 pub loop-i-preserved : goal.loop-i-preserved
 loop-i-preserved c = let l = c.loop-i in moving-on l.invariant c.requires.0 c.requires.1.1 c.loop-i-test.true 1 _ (omega arith, refl)

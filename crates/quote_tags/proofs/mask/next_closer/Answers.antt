@@ -1,6 +1,5 @@
 use native.Mathlib.Omega.{arith}
 use mathlib.Core.Path.{sym, ◌∙◌}
-use Prim.Native.Nat.{◌-◌}
 use Rattle.quote_tags.proofs.Masking.{seek, seek-here, seek-on, seek-end}
 use Rattle.quote_tags.proofs.mask.next_closer.Goals as goal
 

@@ -1,5 +1,4 @@
 use mathlib.Core.Path.{refl}
-use Prim.Native.Nat.{◌-◌}
 use Rattle.quote_tags.specs.Masks.{NoMask}
 use Rattle.quote_tags.proofs.Places.{run_none, run-then, run_on}
 use Rattle.quote_tags.proofs.Unmasking.{not-open-at}

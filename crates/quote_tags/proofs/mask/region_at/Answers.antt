@@ -1,6 +1,6 @@
 use native.Mathlib.Omega.{arith}
 use mathlib.Core.Path.{sym, ◌∙◌}
-use Prim.Native.Nat.{◌-◌, ◌≤◌}
+use Prim.Native.Nat.{◌≤◌}
 use lib.ListN.{length}
 use Rattle.quote_tags.proofs.Tagging.{behind-within}
 use Rattle.quote_tags.proofs.Masking.{region-none, region-here, region-unclosed, closer-place}
@@ -28,7 +28,7 @@ pub overflow_sub-result : goal.overflow_sub-result
 overflow_sub-result c = let a = c.args in let i = a.at.0 in let s = a.s.now in let h : i ≤ length s = omega (arith, c.requires.0) in let P = closer-place _ _ s i _ _ h c.size_of_either-k.ensures c.closer_from-c.ensures.0 in omega (arith, P.1.0)
 
 pub overflow_add-result : goal.overflow_add-result
-overflow_add-result c = let a = c.args in let i = a.at.0 in let s = a.s.now in let h : i ≤ length s = omega (arith, c.requires.0) in let P = closer-place _ _ s i _ _ h c.size_of_either-k.ensures c.closer_from-c.ensures.0 in let w = behind-within _ s _ P.1.1 c.size_of_either-z.ensures in let g = c.well-formed.0 in omega (arith, w, P.1.0, g)
+overflow_add-result c = let a = c.args in let i = a.at.0 in let s = a.s.now in let h : i ≤ length s = omega (arith, c.requires.0) in let P = closer-place _ _ s i _ _ h c.size_of_either-k.ensures c.closer_from-c.ensures.0 in let w = behind-within _ s _ P.1.1 c.size_of_either-z.ensures in omega (arith, w, P.1.0)
 
 pub returns : goal.returns
 returns c = let a = c.args in let i = a.at.0 in let s = a.s.now in let h : i ≤ length s = omega (arith, c.requires.0) in let P = closer-place _ _ s i _ _ h c.size_of_either-k.ensures c.closer_from-c.ensures.0 in (region-here (record { opens = _; closes = _ }) s i _ _ _ c.size_of_either-k.ensures c.closer_from-c.ensures.0 c.size_of_either-z.ensures c.if-k-eq0.false c.if-z-eq0.false, (c.bracket_from-b.ensures, c.closer_from-c.ensures.1))

@@ -1,5 +1,4 @@
 use mathlib.Core.Path.{sym, ◌∙◌}
-use Prim.Native.Nat.{◌-◌}
 use Rattle.quote_tags.proofs.Tagging.{tag_is, tag-not}
 use Rattle.quote_tags.proofs.mask.size_of_either.Goals as goal
 

@@ -1,4 +1,3 @@
-use Prim.Native.Nat.{◌-◌}
 use Rattle.quote_tags.proofs.tag.bracket_from.Goals as goal
 
 pub returns-then-i-b : goal.returns-then-i-b

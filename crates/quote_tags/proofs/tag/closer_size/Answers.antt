@@ -1,4 +1,3 @@
-use Prim.Native.Nat.{◌-◌}
 use Rattle.quote_tags.proofs.Tagging.{tag_is, tag-not, any_here, any-later, any_none}
 use Rattle.quote_tags.specs.Tags.{opener_size, closer_size}
 use Rattle.quote_tags.proofs.tag.closer_size.Goals as goal

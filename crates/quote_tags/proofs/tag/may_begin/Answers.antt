@@ -1,4 +1,3 @@
-use Prim.Native.Nat.{◌-◌}
 use Rattle.quote_tags.proofs.Plain.{not-bracket, not-tag}
 use Rattle.quote_tags.proofs.tag.may_begin.Goals as goal
 

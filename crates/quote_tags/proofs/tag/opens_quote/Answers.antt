@@ -1,5 +1,4 @@
 use mathlib.Core.Path.{refl, sym, ◌∙◌}
-use Prim.Native.Nat.{◌-◌}
 use lib.Seq.{get_or-drop}
 use Rattle.quote_tags.proofs.Plain.{openers-not, openers-by}
 use Rattle.quote_tags.proofs.tag.opens_quote.Goals as goal

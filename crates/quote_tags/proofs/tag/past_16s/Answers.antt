@@ -1,5 +1,5 @@
 use borrow.Author.Rules.{rules}
-use Prim.Native.Nat.{◌+◌, ◌-◌}
+use Prim.Native.Nat.{◌+◌}
 use lib.ListN.{get_or}
 use Rattle.quote_tags.specs.Tags.{NoQ}
 use Rattle.quote_tags.proofs.Places.{between_none, between-then}

@@ -1,7 +1,6 @@
 use borrow.Author.Rules.{rules}
 use native.Mathlib.Omega.{arith}
 use mathlib.Core.Path.{sym}
-use Prim.Native.Nat.{◌-◌}
 use lib.ListN.{drop}
 use lib.Seq.{length-take-le}
 use Rattle.quote_tags.specs.Tags.{NoTag}

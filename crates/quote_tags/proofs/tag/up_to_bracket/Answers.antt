@@ -1,5 +1,4 @@
 use native.Mathlib.Omega.{arith}
-use Prim.Native.Nat.{◌-◌}
 use Rattle.quote_tags.proofs.Tagging.{up-to-here, up-to-none}
 use Rattle.quote_tags.proofs.tag.up_to_bracket.Goals as goal
 
