@@ -1,5 +1,4 @@
 use native.Mathlib.Omega.{arith}
-use Prim.Native.Nat.{◌-◌}
 use Rattle.quote_lines.proofs.Tabling.{behind, behind-byte, behind-end}
 use Rattle.quote_lines.proofs.search.feeds_in.Goals as goal
 

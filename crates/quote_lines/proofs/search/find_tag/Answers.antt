@@ -1,6 +1,5 @@
 use native.Mathlib.Omega.{arith}
 use mathlib.Core.Path.{refl, sym, ◌∙◌}
-use Prim.Native.Nat.{◌-◌}
 use Rattle.quote_lines.proofs.Bared.{same_self}
 use Rattle.quote_lines.proofs.Finding.{finding, finding-on, finding-here, finding-end, finding-weight}
 use Rattle.quote_lines.proofs.search.find_tag.Goals as goal

@@ -1,5 +1,4 @@
 use native.Mathlib.Omega.{arith}
-use Prim.Native.Nat.{◌-◌}
 use Rattle.quote_lines.proofs.Finding.{line-none, line-next, line-last}
 use Rattle.quote_lines.proofs.search.line_at.Goals as goal
 

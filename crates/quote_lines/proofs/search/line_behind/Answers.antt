@@ -1,5 +1,4 @@
 use native.Mathlib.Omega.{arith}
-use Prim.Native.Nat.{◌-◌}
 use Rattle.quote_lines.proofs.Tabling.{behind, behind-run, behind-end}
 use Rattle.quote_lines.proofs.search.line_behind.Goals as goal
 

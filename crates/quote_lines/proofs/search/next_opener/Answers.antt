@@ -1,6 +1,5 @@
 use native.Mathlib.Omega.{arith}
 use mathlib.Core.Path.{sym, ◌∙◌}
-use Prim.Native.Nat.{◌-◌}
 use Rattle.quote_tags.proofs.Plain.{bracket-past}
 use Rattle.quote_lines.proofs.Tabling.{untagged, untagged-past, untagged-byte, opener-found, opener-missing}
 use Rattle.quote_lines.proofs.search.next_opener.Goals as goal

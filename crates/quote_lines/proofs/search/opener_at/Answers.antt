@@ -1,5 +1,4 @@
 use mathlib.Core.Path.{refl, sym, ◌∙◌}
-use Prim.Native.Nat.{◌-◌}
 use Rattle.quote_tags.proofs.Tagging.{tag_is, tag-not}
 use Rattle.quote_tags.specs.Tags.{opener_size}
 use Rattle.quote_lines.proofs.search.opener_at.Goals as goal

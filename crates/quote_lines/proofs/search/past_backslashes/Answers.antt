@@ -1,5 +1,4 @@
 use native.Mathlib.Omega.{arith}
-use Prim.Native.Nat.{◌-◌}
 use Rattle.quote_lines.proofs.Bared.{past, past-here, past-on, past_end}
 use Rattle.quote_lines.proofs.search.past_backslashes.Goals as goal
 

@@ -1,5 +1,4 @@
 use native.Mathlib.Omega.{arith}
-use Prim.Native.Nat.{◌-◌}
 use lib.ListN.{length-set}
 use Rattle.quote_lines.proofs.Tabling.{tag-put}
 use Rattle.quote_lines.proofs.search.put_tag.Goals as goal

@@ -1,6 +1,5 @@
 use native.Mathlib.Omega.{arith}
 use mathlib.Core.Path.{sym, ap, ◌∙◌}
-use Prim.Native.Nat.{◌-◌}
 use lib.Seq.{length-take-le}
 use Rattle.quote_tags.specs.Masks.{visible}
 use Rattle.quote_lines.proofs.search.read_lines.Goals as goal

@@ -1,6 +1,6 @@
 use native.Mathlib.Omega.{arith}
 use mathlib.Core.Path.{refl}
-use Prim.Native.Nat.{◌+◌, ◌-◌}
+use Prim.Native.Nat.{◌+◌}
 use Prim.Native.Nat.{◌*◌}
 use lib.ListN.{drop}
 use Rattle.quote_lines.proofs.Tabling.{opener-long, take_less, tabled-on, tabled-last, tabled-opener}

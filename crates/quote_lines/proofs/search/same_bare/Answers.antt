@@ -1,5 +1,4 @@
 use native.Mathlib.Omega.{arith}
-use Prim.Native.Nat.{◌-◌}
 use Rattle.quote_lines.proofs.Bared.{comparing, comparing-short, comparing-long, comparing-end, comparing-other, comparing-on}
 use Rattle.quote_lines.proofs.search.same_bare.Goals as goal
 

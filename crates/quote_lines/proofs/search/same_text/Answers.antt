@@ -1,6 +1,5 @@
 use native.Mathlib.Omega.{arith}
 use mathlib.Core.Path.{sym}
-use Prim.Native.Nat.{◌-◌}
 use mathlib.Core.Bool.{true≢false}
 use Rattle.quote_lines.proofs.Bared.{equating, equating-on, equating-end}
 use Rattle.quote_lines.proofs.search.same_text.Goals as goal

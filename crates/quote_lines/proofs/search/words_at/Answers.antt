@@ -1,4 +1,3 @@
-use Prim.Native.Nat.{◌-◌}
 use Rattle.quote_lines.proofs.Tabling.{words-cut, words-short}
 use Rattle.quote_lines.proofs.search.words_at.Goals as goal
 

@@ -1,5 +1,4 @@
 use native.Mathlib.Omega.{arith}
-use Prim.Native.Nat.{◌-◌}
 use borrow.Author.Tests.{eq-eqb, ne_eqb}
 use Rattle.text.proofs.Bytes.{look, look-here, look-on, look-past, look-end}
 use Rattle.quote_lines.proofs.weights.next_number.Goals as goal
