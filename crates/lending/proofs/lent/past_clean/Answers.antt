@@ -1,7 +1,6 @@
 use borrow.Author.Rules.{rules}
 use native.Mathlib.Omega.{arith}
 use mathlib.Core.Path.{refl, ◌∙◌}
-use Prim.Native.Nat.{◌-◌}
 use Rattle.lending.proofs.Lending.{clean-past}
 use Rattle.lending.proofs.lent.past_clean.Goals as goal
 
