@@ -5,7 +5,7 @@ use native.Mathlib.Omega.{arith}
 use mathlib.Core.List.{List, [], ◌∷◌, ◌++◌}
 use lib.ListN.{length, take, drop, length-append}
 use lib.Seq.{take-take, take-length}
-use Rattle.text.specs.Cells.{Cell, cells, part, written, cells_from}
+use Rattle.text.specs.Cells.{Cell, cells, part, written, cells_from, more_after}
 use Rattle.text.specs.Writes.{Appends}
 use Rattle.text.proofs.Areas.{area-length}
 use Rattle.attribution_reading.specs.Places.{bytes}
@@ -52,7 +52,7 @@ front_kept {v} {v'} {end} p a n h = sym (part-before a n end v' h) ∙ ap (λ (l
 length_from : (o more : ℕ) (s : List ℕ) → length (cells_from (λ p. p) o more s) ≡ length s
 unfolding cells_from
 length_from o more [] = refl
-length_from o more (b ∷ s) = ap suc (length_from o _ s)
+length_from o more (b ∷ s) = ap suc (length_from o (more_after more (b ∷ s)) s)
 
 caption-inside : (w : List ℕ) (x : List Cell) → length w ≤ length (quote_block w x)
 unfolding quote_block caption_line written

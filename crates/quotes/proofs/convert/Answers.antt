@@ -13,32 +13,32 @@ pub write_quotes-requires : goal.write_quotes-requires
 write_quotes-requires c = let pre = c.requires in
     let t = c.args.text.now in
     let o = c.list_own-c in
-    let lw = o.auto.1.0 in
-    let ln = o.auto.1.1.0 in
-    let lb = o.auto.1.1.1.1.0 in
-    let n = back_long o.new.1.1.0 (5 * length t) in
-    let w = within c.list_own-c.result.deep c.args.lent (length c.list_own-c.new.1.1.1.1.0) c.list_own-c.result.losses c.list_own-c.result.bytes (sym c.refusal_of-refused.ensures ∙ c.enum_told-1.given.1) in
+    let lw = o.auto.work in
+    let ln = o.auto.numbers in
+    let lb = o.auto.loss_bytes in
+    let n = back_long o.new.numbers (5 * length t) in
+    let w = within c.list_own-c.result.deep c.args.lent (length c.list_own-c.new.loss_bytes) c.list_own-c.result.losses c.list_own-c.result.bytes (sym c.refusal_of-refused.ensures ∙ c.in-Fine.is) in
     ((((pre.0.0.0, (pre.0.0.1, pre.1)), (omega (arith, pre.0.1.0, lw), omega (arith, pre.0.1.1, ln, n))), c.list_own-c.ensures.1 (cells_of t) (bytes-cells_of t) ∙ w.0), spelled-there t _ _ _ _ _ _ _ o.ensures.0 (cells_of t) (bytes-cells_of t) (omega (arith, w.1.1, lb)))
 
 pub returns-in-Refused : goal.returns-in-Refused
 returns-in-Refused c = let t = c.args.text.now in
     let o = c.list_own-c in
     let n = listed-counts t _ _ _ _ _ _ _ o.ensures.0 (cells_of t) (bytes-cells_of t) in
-    let v = converted-by (cells_of t) _ _ _ _ _ _ _ o.auto.1.1.1.1.0 (sym (c.list_own-c.ensures.1 (cells_of t) (bytes-cells_of t))) n.0 n.1 in
+    let v = converted-by (cells_of t) _ _ _ _ _ _ _ o.auto.loss_bytes (sym (c.list_own-c.ensures.1 (cells_of t) (bytes-cells_of t))) n.0 n.1 in
     let r = c.refuse.ensures in
-    (answers-refused _ _ _ v (sym c.refusal_of-refused.ensures ∙ c.refused-1.given.1) r.0 (rw o.auto.1.1.1.1.0 at r.1), refused-noted _ _ _ _ _ r.0)
+    (answers-refused _ _ _ v (sym c.refusal_of-refused.ensures ∙ c.in-Refused.is) r.0 (rw o.auto.loss_bytes at r.1), refused-noted _ _ _ _ _ r.0)
 
 pub returns-in-Fine : goal.returns-in-Fine
 returns-in-Fine c = let pre = c.requires in
     let t = c.args.text.now in
     let o = c.list_own-c in
-    let ln = o.auto.1.1.0 in
-    let lb = o.auto.1.1.1.1.0 in
+    let ln = o.auto.numbers in
+    let lb = o.auto.loss_bytes in
     let n = listed-counts t _ _ _ _ _ _ _ o.ensures.0 (cells_of t) (bytes-cells_of t) in
     let v = converted-by (cells_of t) _ _ _ _ _ _ _ lb (sym (c.list_own-c.ensures.1 (cells_of t) (bytes-cells_of t))) n.0 n.1 in
-    let w = within c.list_own-c.result.deep c.args.lent (length c.list_own-c.new.1.1.1.1.0) c.list_own-c.result.losses c.list_own-c.result.bytes (sym c.refusal_of-refused.ensures ∙ c.enum_told-1.given.1) in
+    let w = within c.list_own-c.result.deep c.args.lent (length c.list_own-c.new.loss_bytes) c.list_own-c.result.losses c.list_own-c.result.bytes (sym c.refusal_of-refused.ensures ∙ c.in-Fine.is) in
     let l = length-take-le (5 * length t) c.args.numbers.now (omega (arith, pre.0.1.1)) in
     let e = rw lb at c.write_quotes.ensures in (
-      answers-fine _ _ v (sym c.refusal_of-refused.ensures ∙ c.enum_told-1.given.1) e,
-      spaced-noted t _ _ (5 * length t) o.new.1.1.0 _ w.1.0 (records-there t _ _ _ _ _ _ _ o.ensures.0 (cells_of t) (bytes-cells_of t) (omega (arith, o.ensures.0.few, l))) (omega (arith, o.ensures.0.few)) (omega (arith, pre.0.1.1, ln)) n.0 _ _ e.answer,
+      answers-fine _ _ v (sym c.refusal_of-refused.ensures ∙ c.in-Fine.is) e,
+      spaced-noted t _ _ (5 * length t) o.new.numbers _ w.1.0 (records-there t _ _ _ _ _ _ _ o.ensures.0 (cells_of t) (bytes-cells_of t) (omega (arith, o.ensures.0.few, l))) (omega (arith, o.ensures.0.few)) (omega (arith, pre.0.1.1, ln)) n.0 _ _ e.answer,
     )

@@ -6,7 +6,7 @@ use Rattle.quote_losses.proofs.Recording.{front_kept, front_long, back_is, same-
 use Rattle.quotes.proofs.list_own.Goals as goal
 
 pub slice_bounds-list_losses-end-2 : goal.slice_bounds-list_losses-end-2
-slice_bounds-list_losses-end-2 c = let p = c.read_lines-own in sym (length-take-le p.result.size p.new.1.0 (omega (arith, p.ensures.short, p.auto.1.0, c.requires.1.0)))
+slice_bounds-list_losses-end-2 c = let p = c.read_lines-own in sym (length-take-le p.result.size p.new.work (omega (arith, p.ensures.short, p.auto.work, c.requires.1.0)))
 
 pub list_losses-requires : goal.list_losses-requires
 list_losses-requires c = let xs = c.args.numbers.now in

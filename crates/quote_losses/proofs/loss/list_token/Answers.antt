@@ -45,7 +45,7 @@ overflow_add-result-then-k-ne0 c = omega (arith, c.requires.0.0, c.requires.0.1,
 
 pub returns-then-k-ne0 : goal.returns-then-k-ne0
 returns-then-k-ne0 c = let h = attribution-short c.args.source.now c.args.from.at.0 _ _ c.requires.0.0 c.tag_at-tag.ensures.1.0 c.if-k-ne0.true c.attribution_size.ensures in
-    let f = front-listed c.args.numbers.now _ c.args.base c.requires.1.1.1 c.put_losses-c.auto.1.1.1.0
+    let f = front-listed c.args.numbers.now _ c.args.base c.requires.1.1.1 c.put_losses-c.auto.records
     (lists-opener c.args.source.now _ _ _ c.args.from.at.0 _ _ _ _ c.requires.0.0 c.requires.1.0.1 _ c.tag_at-tag.ensures.0 _ c.tag_at-tag.ensures.1.0
     _ _ _ _ _ _ _ c.if-k-ne0.true (attribution-part c.args.source.now c.args.from.at.0 _ _ c.tag_at-tag.ensures.1.0 c.attribution_size.ensures) (omega (arith, h)) c.line_of-found.ensures c.put_losses-c.ensures) in
     (f.0, (f.1, (λ h. depth-opener c.args.source.now c.args.from.at.0 _ _ c.requires.0.0 h c.tag_at-tag.ensures.1.0 c.if-k-ne0.true (c.open_more-deeper.ensures.0 h), c.open_more-deeper.ensures.1)))

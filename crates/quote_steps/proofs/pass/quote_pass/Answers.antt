@@ -21,7 +21,7 @@ close_open-requires c = let p = c.requires in
     let L = p.0 in
     let q = c.take_tokens-st in
     let Q = q.ensures in
-    (((L.0, ((omega (arith, L.1.0.0, q.auto.0), omega (arith, L.1.0.1, q.auto.1.0)), L.1.1)), (Q.place, c.if-m-st.false)), (omega (arith, Q.depth, q.auto), omega (arith, Q.depth, q.auto)))
+    (((L.0, ((omega (arith, L.1.0.0, q.auto.work), omega (arith, L.1.0.1, q.auto.numbers)), L.1.1)), (Q.place, c.if-m-st.false)), (omega (arith, Q.depth, q.auto), omega (arith, Q.depth, q.auto)))
 
 pub returns : goal.returns
 returns c = let x = c.args in
