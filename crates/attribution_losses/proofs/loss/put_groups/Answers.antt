@@ -1,5 +1,4 @@
 use native.Mathlib.Omega.{arith}
-use Prim.Native.Nat.{◌-◌}
 use Rattle.attribution_losses.proofs.Losing.{lose-start, lose-turn, lose-end}
 use Rattle.attribution_losses.proofs.loss.put_groups.Goals as goal
 

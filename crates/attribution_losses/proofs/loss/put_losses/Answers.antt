@@ -1,6 +1,5 @@
 use native.Mathlib.Omega.{arith}
 use mathlib.Core.Path.{sym, ◌∙◌}
-use Prim.Native.Nat.{◌-◌}
 use Rattle.attribution_losses.proofs.Losing.{groups-room, all_listed, none-listed}
 use Rattle.attribution_losses.proofs.loss.put_losses.Goals as goal
 

@@ -1,5 +1,4 @@
 use native.Mathlib.Omega.{arith}
-use Prim.Native.Nat.{◌-◌}
 use Rattle.attribution_reading.specs.Places.{bytes}
 use Rattle.attribution_losses.proofs.Losing.{one-passed, none_passed}
 use Rattle.attribution_losses.proofs.loss.put_passed.Goals as goal
