@@ -1,8 +1,5 @@
 use native.Mathlib.Omega.{arith}
-use mathlib.Core.Path.{◌≡◌, sym, ap, ◌∙◌}
-use mathlib.Core.List.{List}
-use Prim.Native.Nat.{ℕ, ◌<◌}
-use lib.ListN.{length}
+use mathlib.Core.Path.{ap, ◌∙◌}
 use Rattle.attribution_reading.specs.Places.{Scanned}
 use Rattle.attribution_reading.proofs.Fielding.{keeps-inside, read-on, read_all}
 use Rattle.attribution_reading.proofs.facts.with_parts.Goals as goal
