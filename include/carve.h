@@ -1,4 +1,4 @@
-/* BBCode forum posts to Carve text: the static library libcarve.a (`rt staticlib carve` writes it; x86-64 Linux).
+/* BBCode forum posts to Carve text: the static library libcarve.a (`rust/library` writes it; x86-64 Linux).
  *
  * How to call: a slice is two arguments, a pointer and the number of its elements (not bytes). The pointer is not null and is aligned for its
  * element, also where the number is 0. No two lent parts overlap. Nothing is allocated, nothing is kept between calls, and a call may run beside

@@ -1,4 +1,4 @@
-//! Links the archive that `rt staticlib carve` writes.
+//! Links the archive that `rust/library` writes.
 
 fn main() {
     let archive = concat!(env!("CARGO_MANIFEST_DIR"), "/../../target/staticlib");

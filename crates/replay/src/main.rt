@@ -6,68 +6,57 @@ mod cases;
 mod posts;
 
 use cases::{case_behind, is_answer, line_behind};
-use libc::STDOUT_FILENO;
 use posts::list_line;
+use reading::read_full;
+use std::io::Write;
+use std::{fs, io};
 
 // For a person: the case, with the listing that it should have, and the listing that was made.
-fn show(number: usize, case: &[u8], listing: &[u8]) {
-    io::write_all(STDOUT_FILENO, b"case=");
-    io::print_decimal(STDOUT_FILENO, number as u64);
-    io::write_all(STDOUT_FILENO, b"\n");
-    io::write_all(STDOUT_FILENO, case);
-    io::write_all(STDOUT_FILENO, b"made instead:\n");
-    io::write_all(STDOUT_FILENO, listing);
+fn show<W: Write>(out: &mut W, number: usize, case: &[u8], listing: &[u8]) -> io::Result<()> {
+    writeln!(out, "case={number}")?;
+    out.write_all(case)?;
+    out.write_all(b"made instead:\n")?;
+    out.write_all(listing)
 }
 
 // Whether the post of a case has the listing that stands in it.
-fn replay_case(number: usize, case: &[u8]) -> bool {
+fn replay_case<W: Write>(out: &mut W, number: usize, case: &[u8]) -> io::Result<bool> {
     let mut buf = [0u8; 16384];
     let mut nums = [0u32; 16384];
     let post = line_behind(case, 0);
     let answer = line_behind(case, post);
     let k = list_line(&case[post..], &mut buf, &mut nums);
     if is_answer(&case[answer..], &buf[..k]) {
-        return true;
+        return Ok(true);
     }
-    show(number, case, &buf[..k]);
-    false
+    show(out, number, case, &buf[..k])?;
+    Ok(false)
 }
 
-fn print_count(key: &[u8], n: usize) {
-    io::write_all(STDOUT_FILENO, key);
-    io::print_decimal(STDOUT_FILENO, n as u64);
-    io::write_all(STDOUT_FILENO, b"\n");
-}
-
-fn replay(file: &[u8]) {
+fn replay<W: Write>(out: &mut W, file: &[u8]) -> io::Result<()> {
     let mut at: usize = 0;
     let mut cases: usize = 0;
     let mut equal: usize = 0;
     while at < file.len() {
         let end = case_behind(file, at);
         cases += 1;
-        if replay_case(cases, &file[at..end]) {
+        if replay_case(out, cases, &file[at..end])? {
             equal += 1;
         }
         at = end;
     }
-    print_count(b"cases=", cases);
-    print_count(b"equal=", equal);
+    writeln!(out, "cases={cases}")?;
+    writeln!(out, "equal={equal}")
 }
 
-fn main() {
-    let fd = os::open_read(b"cases");
-    if fd < 0 {
-        os::fail(b"cases");
-        return;
-    }
+fn main(rt: HostRuntime) -> io::Result<()> {
+    let mut out = rt.stdout();
+    let mut cases = fs::open(&rt, "cases")?;
     let mut file = [0u8; 262144];
-    let n = io::read_full(fd, &mut file);
-    libc::close(fd);
+    let n = read_full(&mut cases, &mut file)?;
     // a file that fills the memory may go on behind it
     if n == 262144 {
-        io::write_all(STDOUT_FILENO, b"cases: too long\n");
-        return;
+        return out.write_all(b"cases: too long\n");
     }
-    replay(&file[..n]);
+    replay(&mut out, &file[..n])
 }

@@ -1,6 +1,5 @@
 // The post of a case: `post=`, then its bytes, LF as `\n`, backslash as `\\`, and as `\xNN` a byte that no listing has.
-ghost use Rattle.std.specs.Prelude.{◌+◌, ◌≤◌, ◌<◌, length};
-ghost use Rattle.io.specs.Counts.{IsPrefixLen};
+ghost use Rattle.std.specs.Prelude.{◌≡◌, ◌+◌, ◌≤◌, ◌<◌, length, take};
 
 use post_listing::list_thread;
 use text::PostAt;
@@ -63,7 +62,7 @@ fn byte_of(s: &[u8], i: usize, width: usize) -> u8
 
 // Puts the bytes of the line that `s` begins with at the start of `out`, as far as there is room, and answers how many.
 fn unescape(s: &[u8], out: &mut [u8]) -> usize
-    ensures { IsPrefixLen result out.new }
+    ensures { (result ≤ length out.new) × (result ≡ length (take result out.new)) }
 {
     let mut i: usize = 0;
     let mut k: usize = 0;
@@ -84,7 +83,7 @@ fn unescape(s: &[u8], out: &mut [u8]) -> usize
 
 // Lists the post whose line `s` begins with, at the start of `buf`, and answers how long the listing is: 0 where there is no post.
 pub fn list_line(s: &[u8], buf: &mut [u8], nums: &mut [u32]) -> usize
-    ensures { IsPrefixLen result buf.new }
+    ensures { (result ≤ length buf.new) × (result ≡ length (take result buf.new)) }
 {
     let mut line = [0u8; LINE_ROOM];
     let n = unescape(s, &mut line);
@@ -97,7 +96,7 @@ pub fn list_line(s: &[u8], buf: &mut [u8], nums: &mut [u32]) -> usize
     let end = list_thread(&line[5..n], buf, nums);
     let size = end.0;
     if size <= LISTING_MOST {
-        return io::count(size as isize, buf);
+        return size.min(buf.len());
     }
     0
 }

@@ -10,7 +10,7 @@
 //! [`Converter`] owns its memory and is what most callers want. [`Lent`] has the same operations over memory that the caller lends. Every byte of a
 //! converted text carries its origin, and what a caption does not say any more is listed as a [`Loss`].
 //!
-//! `rt staticlib carve` writes the archive that this crate links, target/staticlib/libcarve.a of the repository.
+//! `rust/library` writes the archive that this crate links, target/staticlib/libcarve.a of the repository.
 
 #![warn(missing_docs)]
 

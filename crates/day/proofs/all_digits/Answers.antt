@@ -1,6 +1,5 @@
 use native.Mathlib.Omega.{arith}
 use mathlib.Core.Path.{refl, sym, ◌∙◌}
-use Prim.Native.Nat.{◌-◌}
 use Rattle.day.proofs.Laws.{digits-turn, digits_low, digits-high, digits-end}
 use Rattle.day.proofs.all_digits.Goals as goal
 

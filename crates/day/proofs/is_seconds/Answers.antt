@@ -1,5 +1,4 @@
 use mathlib.Core.Path.{sym, ◌∙◌}
-use Prim.Native.Nat.{◌-◌}
 use Rattle.day.proofs.Laws.{seconds-short, seconds-long, seconds-digits}
 use Rattle.day.proofs.is_seconds.Goals as goal
 

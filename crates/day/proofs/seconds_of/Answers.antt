@@ -1,6 +1,5 @@
 use native.Mathlib.Omega.{arith}
 use mathlib.Core.Path.{refl, sym, ◌∙◌}
-use Prim.Native.Nat.{◌-◌}
 use Rattle.day.specs.Day.{number}
 use Rattle.day.proofs.Laws.{tens-top, tens-more, digit_at, number-turn, number-end}
 use Rattle.day.proofs.seconds_of.Goals as goal

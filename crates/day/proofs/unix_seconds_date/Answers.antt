@@ -1,6 +1,5 @@
 use borrow.Author.Rules.{rules}
 use mathlib.Core.Path.{sym, ◌∙◌}
-use Prim.Native.Nat.{◌-◌}
 use Rattle.day.proofs.Laws.{dated-short, dated-no, dated-yes}
 use Rattle.day.proofs.unix_seconds_date.Goals as goal
 

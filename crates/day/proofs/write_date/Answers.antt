@@ -1,5 +1,4 @@
 use native.Mathlib.Omega.{arith}
-use Prim.Native.Nat.{◌-◌}
 use lib.ListN.{length-set}
 use Rattle.day.proofs.Laws.{date-written}
 use Rattle.day.proofs.write_date.Goals as goal

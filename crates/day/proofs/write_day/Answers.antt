@@ -1,5 +1,4 @@
 use native.Mathlib.Omega.{arith}
-use Prim.Native.Nat.{◌-◌}
 use Prim.Native.Nat.{◌/◌}
 use Rattle.day.proofs.Laws.{seconds-are, date-small, day-written}
 use Rattle.day.proofs.write_day.Goals as goal

@@ -1,5 +1,4 @@
 use borrow.Author.Tests.{lt-ltb, le-ltb}
-use Prim.Native.Nat.{◌-◌}
 use Rattle.losses.proofs.loss_at.Goals as goal
 
 pub returns-then-i-count : goal.returns-then-i-count

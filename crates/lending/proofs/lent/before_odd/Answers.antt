@@ -14,15 +14,15 @@ first_in_16-requires c = (search rules, ltb-true _ _ (sym c.stands_in_16.ensures
 
 pub returns-then-stands_in_16 : goal.returns-then-stands_in_16
 returns-then-stands_in_16 c = let w = c.set_odd in
-    let flags : List ℕ = w.new.1.1.0 in
+    let flags : List ℕ = w.new.flags in
     let t : to_first (λ x. eqb x 1) flags < 16 = ltb-true _ _ (sym c.stands_in_16.ensures ∙ c.if-stands_in_16.true) in
     let f : c.first_in_16.result ≡ to_first (λ x. eqb x 1) flags = c.first_in_16.ensures in
-    let o = odd-first c.args.s.now c.args.i flags c.requires w.auto.1.1.0 w.ensures in
+    let o = odd-first c.args.s.now c.args.i flags c.requires w.auto.flags w.ensures in
     (omega (arith, f, t), omega (arith, f, o))
 
 pub returns : goal.returns
 returns c = let w = c.set_odd in
-    let flags : List ℕ = w.new.1.1.0 in
+    let flags : List ℕ = w.new.flags in
     let t : 16 ≤ to_first (λ x. eqb x 1) flags = ltb-false _ _ (sym c.stands_in_16.ensures ∙ c.if-stands_in_16.false) in
-    let o = odd-first c.args.s.now c.args.i flags c.requires w.auto.1.1.0 w.ensures in
+    let o = odd-first c.args.s.now c.args.i flags c.requires w.auto.flags w.ensures in
     (omega arith, omega (arith, t, o))

@@ -1,5 +1,4 @@
 use mathlib.Core.Path.{sym, ◌∙◌}
-use Prim.Native.Nat.{◌-◌}
 use Rattle.lending.specs.Lent.{checked}
 use Rattle.text.proofs.Decide.{decide}
 use Rattle.lending.proofs.Lending.{clean-yes, clean-no}

@@ -1,7 +1,6 @@
 use borrow.Author.Rules.{rules}
 use native.Mathlib.Omega.{arith}
 use mathlib.Core.Path.{refl, sym, ◌∙◌}
-use Prim.Native.Nat.{◌-◌}
 use Rattle.lending.proofs.Lending.{clean_end, clean-odd, clean-one, clean-bad, char-within, clean-char}
 use Rattle.lending.proofs.lent.is_clean.Goals as goal
 

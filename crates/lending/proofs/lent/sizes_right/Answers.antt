@@ -1,6 +1,6 @@
 use native.Mathlib.Omega.{arith}
 use mathlib.Core.Path.{sym, ◌∙◌}
-use Prim.Native.Nat.{◌-◌, ◌≤◌, ◌<◌}
+use Prim.Native.Nat.{◌≤◌, ◌<◌}
 use Rattle.lending.specs.Lent.{sizes_right}
 use Rattle.text.proofs.Decide.{decide}
 use Rattle.text.specs.Bounds.{out_most, work_size, numbers_size}

@@ -1,4 +1,3 @@
-use Prim.Native.Nat.{◌-◌}
 use Rattle.lending.proofs.Characters.{char-at}
 use Rattle.lending.proofs.utf8.char_size.Goals as goal
 

@@ -1,5 +1,4 @@
 use mathlib.Core.Path.{sym}
-use Prim.Native.Nat.{◌-◌}
 use Rattle.text.proofs.Decide.{decide}
 use Rattle.lending.proofs.utf8.is_three.Goals as goal
 

@@ -1,7 +1,7 @@
 use borrow.Author.Rules.{rules}
 use native.Mathlib.Omega.{arith}
 use mathlib.Core.Path.{refl, sym, ◌∙◌}
-use Prim.Native.Nat.{◌+◌, ◌-◌}
+use Prim.Native.Nat.{◌+◌}
 use Rattle.lending.proofs.Characters.{utf8-bad, utf8-turn, utf8-end}
 use Rattle.lending.proofs.utf8.is_utf8.Goals as goal
 

@@ -1,4 +1,3 @@
-use Prim.Native.Nat.{◌-◌}
 use Rattle.lending.specs.Utf8.{utf8-3, tail}
 use Rattle.text.proofs.Decide.{asked}
 use Rattle.lending.proofs.utf8.is_utf8_3.Goals as goal

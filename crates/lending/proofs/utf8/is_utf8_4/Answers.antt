@@ -1,4 +1,3 @@
-use Prim.Native.Nat.{◌-◌}
 use Rattle.lending.specs.Utf8.{utf8-4, tail}
 use Rattle.text.proofs.Decide.{asked}
 use Rattle.lending.proofs.utf8.is_utf8_4.Goals as goal

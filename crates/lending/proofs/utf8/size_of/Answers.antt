@@ -1,4 +1,3 @@
-use Prim.Native.Nat.{◌-◌}
 use Rattle.lending.specs.Utf8.{size, utf8-1, utf8-2, tail}
 use Rattle.text.proofs.Decide.{asked}
 use Rattle.lending.proofs.utf8.size_of.Goals as goal
