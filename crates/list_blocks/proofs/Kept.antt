@@ -6,7 +6,7 @@ use native.Mathlib.Omega.{arith}
 use mathlib.Core.Bool.{Bool, true, false, cond}
 use mathlib.Core.List.{List, [], ◌∷◌, map}
 use lib.ListN.{length, take, get_or, replicate}
-use Rattle.text.specs.Cells.{Cell, cell, cells, part, feed, sign}
+use Rattle.text.specs.Cells.{Cell, cells, part, feed, sign}
 use Rattle.text.specs.Lines.{trim, trim_end, lines, followed, joined}
 use Rattle.text.specs.Decimal.{decimal}
 use Rattle.text.specs.Writes.{AppendsIn, Apart}

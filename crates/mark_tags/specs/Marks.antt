@@ -14,7 +14,7 @@
 -- Assumes nothing.
 use Rattle.std.specs.Prelude.{List, [], ◌∷◌, ◌++◌, map, Bool, true, false, not, ◌&&◌, ◌||◌, cond, ℕ, zero, suc, ◌+◌, eqb, length, take, get_or}
 use Rattle.std.proofs.Math.Option.{Option, none, some}
-use Rattle.text.specs.Ascii.{is, inside, is_digit, is_letter, is_empty}
+use Rattle.text.specs.Ascii.{is, is_digit, is_letter, is_empty}
 use Rattle.text.specs.Cells.{Cell, bytes, sign}
 
 -- ---- Tags

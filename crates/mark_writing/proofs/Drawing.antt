@@ -1,16 +1,16 @@
 -- Laws of writing a slot: texts and their spans one behind the other. Assumes nothing.
 use mathlib.Core.Path.{◌≡◌, refl, sym, ap, ◌∙◌, subst}
 use mathlib.Core.List.{List, [], ◌∷◌, ◌++◌, append_assoc, append-nil, map, map-append}
-use Prim.Native.Nat.{ℕ, ◌+◌, ◌-◌, ◌≤◌, ◌<◌}
+use Prim.Native.Nat.{ℕ, ◌+◌, ◌≤◌, ◌<◌}
 use native.Mathlib.Nat.{add_assoc, zero-add}
 use native.Mathlib.Omega.{arith}
 use native.Mathlib.Decide.{dec_le}
 use lib.ListN.{length, take, length-append, length-map}
 use lib.Seq.{length-take-le}
-use Rattle.text.specs.Cells.{Cell, cells}
+use Rattle.text.specs.Cells.{Cell}
 use Rattle.text.specs.Writes.{Holds, Appends}
 use Rattle.text.proofs.Writing.{holds_fits, appends-none, appends-then}
-use Rattle.mark_tags.specs.Marks.{end, text, Span, Written, shift, plain, ◌▹◌, span_numbers}
+use Rattle.mark_tags.specs.Marks.{Span, Written, shift, plain, ◌▹◌, span_numbers}
 use Rattle.mark_pieces.specs.Spans.{Writes}
 
 -- ---- texts behind one another

@@ -163,11 +163,6 @@ module _ {src ns : List ℕ} {k i what a e : ℕ} {touches : Bool} {last item : 
   pub looked-mark : what ≡ 3 → 4 ≤ get_or ns (2 * length src + 2 + i) 0 → content (within (slot_at src ns k (i + 1))) ≡ true → Looked src ns k i what a e touches last item
   looked-mark w h z = record { leave = λ x. absurd (omega arith); text = λ x. absurd (omega arith); skip = λ x. absurd (omega arith); mark = λ _. (h, z) }
 
-pub skip-forward : {src ns : List ℕ} {k i j : ℕ} → Skips src ns k i j → i < j
-skip-forward (skips-gone a b l e) = omega arith
-skip-forward (skips-nothing z l e) = omega arith
-skip-forward (skips-empty f e) = let h = e.forward in omega arith
-
 pub piece_inside : {src ns : List ℕ} {k i a e : ℕ} {touches : Bool} {last : ℕ} → Held src ns k → i < k → Piece src ns k i a e touches last → e ≤ length src
 unfolding bound_at
 piece_inside {src} {ns} {k} {i} t h p = let b = (bounds src ns k i t h).1 in let z = p.behind in omega arith

@@ -6,3 +6,4 @@ pub mod SlotAsking
 pub mod MarkWriting
 pub mod OneTextLaws
 pub mod Inwards
+pub mod MarkEnding

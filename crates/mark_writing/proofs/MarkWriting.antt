@@ -375,7 +375,7 @@ module _ {src ns : List ℕ} {k mask before d at : ℕ} {out₂ org₂ : List �
     unfolding mark_step wrap span_numbers
     listing br to f t =
         let o : at + 1 + cond br 1 0 ≡ at + length (opening br d) = let y = opening-long br d in omega arith in
-        rw (t, o, add-zero at, ← f, ← m.delimits, shift-shift at (length (opening br d)) body.spans)
+        rw (t, o, add-zero at, ← shift-shift at (length (opening br d)) body.spans, f, m.delimits)
 
     last-is : (br : Bool) → br ≡ form → cond br 125 d ≡ (mark_at src ns k m.i before).state.before
     unfolding mark_step wrap

@@ -2,12 +2,12 @@
 use mathlib.Core.Path.{◌≡◌, refl, sym, ap, ◌∙◌, subst}
 use mathlib.Core.List.{List, [], ◌∷◌, ◌++◌, map}
 use mathlib.Core.Bool.{Bool, true, false, not, ◌&&◌}
-use Prim.Native.Nat.{ℕ, suc, ◌+◌, ◌-◌, ◌*◌, ◌%◌, ◌≤◌, ◌<◌}
+use Prim.Native.Nat.{ℕ, suc, ◌+◌, ◌*◌, ◌%◌, ◌≤◌, ◌<◌}
 use native.Mathlib.Omega.{arith}
 use lib.Dec.{eqb}
 use lib.ListN.{length, take, length-map}
 use Rattle.text.specs.Ascii.{is}
-use Rattle.text.specs.Cells.{Cell, cells}
+use Rattle.text.specs.Cells.{Cell}
 use Rattle.text.specs.Writes.{Appends}
 use Rattle.text.specs.Bounds.{text_most}
 use Rattle.mark_tags.specs.Marks.{Kind, Items, end, text, mark, Slots, Written, shift, plain, ◌▹◌, content, Next, next, marked, State, start, Step, backslash, escape_last, touching, first_or, text_step, piece_text, mark_step, wrap, last_or, absent, write, span_numbers}

@@ -28,17 +28,17 @@ lay_part-requires c = let x = c.args in
     let q = c.set_caption-to in
     let f = caption-from x.text.now _ q.ensures in
     let h = c.if-out-len.false in
-    ((f, (omega (arith, f, h, p.0.1.0, q.auto.1.1.0), omega (arith, f, h, p.0.1.1, q.auto.1.1.1.0))), (omega (arith, f, h), omega (arith, f, h, p.1)))
+    ((f, (omega (arith, f, h, p.0.1.0, q.auto.work), omega (arith, f, h, p.0.1.1, q.auto.numbers))), (omega (arith, f, h), omega (arith, f, h, p.1)))
 
 pub finish-requires : goal.finish-requires
 finish-requires c = let p = c.requires in
     let q = c.set_caption-to in
     let n = c.count_losses-c.ensures in
-    (p.0.0.0, (omega (arith, p.0.1.1, q.auto.1.1.1.0), omega (arith, n.1, c.if-loss_bytes-c.false)))
+    (p.0.0.0, (omega (arith, p.0.1.1, q.auto.numbers), omega (arith, n.1, c.if-loss_bytes-c.false)))
 
 pub returns : goal.returns
 returns c = let p = c.requires in
     let q = c.set_caption-to in
     let n = c.count_losses-c.ensures in
     let f = c.finish.ensures in
-    done _ _ _ _ _ _ _ n.0 n.1 c.if-lent-c.false c.if-loss_bytes-c.false q.ensures _ c.if-out-len.false p.1 f.0 c.lay_part.ensures f.1 (omega (arith, p.0.1.1, q.auto.1.1.1.0))
+    done _ _ _ _ _ _ _ n.0 n.1 c.if-lent-c.false c.if-loss_bytes-c.false q.ensures _ c.if-out-len.false p.1 f.0 c.lay_part.ensures f.1 (omega (arith, p.0.1.1, q.auto.numbers))

@@ -6,4 +6,4 @@ use Rattle.attribution.proofs.refuse.Goals as goal
 
 pub returns : goal.returns
 returns c = let a = c.args in
-    (refl, all-zero (length a.out.now) (length a.origins.now) a.«loss-bytes».now c.lay_nothing.ensures c.zero8.ensures)
+    (refl, all-zero (length a.out.now) (length a.origins.now) a.loss_bytes.now c.lay_nothing.ensures c.zero8.ensures)

@@ -8,14 +8,14 @@ pub returns-then-work-past : goal.returns-then-work-past
 returns-then-work-past c = let x = c.args in
     let p = c.requires in
     let s = c.set_source in
-    let z = s.auto.1.0 in
+    let z = s.auto.work in
     not-fitting x.text.now s.ensures (omega arith) (omega (arith, p.1.0, z)) c.join_texts-past.ensures x.m _ refl (omega (arith, p.1.0, z)) c.if-work-past.true
 
 pub put_caption-requires : goal.put_caption-requires
 put_caption-requires c = let x = c.args in
     let p = c.requires in
     let s = c.set_source in
-    let z = s.auto.1.0 in
+    let z = s.auto.work in
     let j = c.join_texts-past.ensures in
     (words-spoken x.text.now s.ensures (omega arith) (omega (arith, p.1.0, z)) j c.if-work-past.false, (omega (arith, j.size, z, p.1.0), omega (arith, p.1.1)))
 
@@ -23,6 +23,6 @@ pub returns : goal.returns
 returns c = let x = c.args in
     let p = c.requires in
     let s = c.set_source in
-    let z = s.auto.1.0 in
+    let z = s.auto.work in
     let q = c.put_caption in
-    caption-stands x.text.now s.ensures (omega arith) (omega (arith, p.1.0, z)) c.join_texts-past.ensures x.m refl (omega (arith, p.1.1)) q.auto.0 q.auto.1.0 q.ensures
+    caption-stands x.text.now s.ensures (omega arith) (omega (arith, p.1.0, z)) c.join_texts-past.ensures x.m refl (omega (arith, p.1.1)) q.auto.work q.auto.numbers q.ensures

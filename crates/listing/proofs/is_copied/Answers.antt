@@ -1,5 +1,4 @@
 use mathlib.Core.Path.{sym}
-use Prim.Native.Nat.{◌-◌}
 use Rattle.text.proofs.Decide.{decide}
 use Rattle.listing.proofs.is_copied.Goals as goal
 

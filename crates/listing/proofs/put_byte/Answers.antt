@@ -1,4 +1,3 @@
-use Prim.Native.Nat.{◌-◌}
 use borrow.Author.Tests.{ne_eqb}
 use Rattle.listing.proofs.Laws.{adds-feed, adds-backslash, adds-other}
 use Rattle.listing.proofs.put_byte.Goals as goal

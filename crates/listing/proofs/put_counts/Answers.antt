@@ -1,4 +1,3 @@
-use Prim.Native.Nat.{◌-◌}
 use Rattle.listing.proofs.Laws.{adds-counts}
 use Rattle.listing.proofs.put_counts.Goals as goal
 

@@ -1,4 +1,3 @@
-use Prim.Native.Nat.{◌-◌}
 use Rattle.listing.proofs.Laws.{adds-field}
 use Rattle.listing.proofs.put_field.Goals as goal
 

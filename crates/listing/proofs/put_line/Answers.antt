@@ -1,4 +1,3 @@
-use Prim.Native.Nat.{◌-◌}
 use Rattle.listing.proofs.Laws.{adds-line}
 use Rattle.listing.proofs.put_line.Goals as goal
 

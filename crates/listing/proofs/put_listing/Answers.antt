@@ -1,6 +1,5 @@
 use native.Mathlib.Omega.{arith}
 use mathlib.Core.Path.{sym}
-use Prim.Native.Nat.{◌-◌}
 use lib.Seq.{length-take-le}
 use Rattle.listing.proofs.Laws.{adds-listing}
 use Rattle.listing.proofs.put_listing.Goals as goal

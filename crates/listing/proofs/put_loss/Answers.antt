@@ -1,4 +1,3 @@
-use Prim.Native.Nat.{◌-◌}
 use Rattle.listing.proofs.Laws.{adds-loss}
 use Rattle.listing.proofs.put_loss.Goals as goal
 

@@ -1,7 +1,6 @@
 use borrow.Author.Rules.{rules}
 use native.Mathlib.Omega.{arith}
 use mathlib.Core.Path.{refl}
-use Prim.Native.Nat.{◌-◌}
 use Rattle.text.proofs.Writing.{start, more as go_on, done}
 use Rattle.listing.proofs.Laws.{losses-turn, losses-end}
 use Rattle.listing.proofs.put_losses.Goals as goal

@@ -1,4 +1,3 @@
-use Prim.Native.Nat.{◌-◌}
 use Rattle.listing.proofs.Laws.{adds-sizes}
 use Rattle.listing.proofs.put_sizes.Goals as goal
 

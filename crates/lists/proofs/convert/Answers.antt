@@ -1,6 +1,5 @@
 use native.Mathlib.Omega.{arith}
 use mathlib.Core.Path.{refl}
-use Prim.Native.Nat.{◌-◌}
 use Rattle.lists.proofs.Conversion.{table_fits, at_front, called-deep, called-full, called-done, written-end}
 use Rattle.lists.proofs.convert.Goals as goal
 
@@ -19,17 +18,17 @@ list_pass-passed-requires c = let p = c.requires in
 
 pub lay_text-requires : goal.lay_text-requires
 lay_text-requires c = let p = c.requires in
-    let e = written-end (rw c.passed-1.given.1 at c.list_pass-passed.ensures.0).1 in
-    ((e.0, (omega (arith, e.1, p, c.work-1.given, c.work-2-1.given), omega (arith, e.1, p, c.numbers-1.given, c.numbers-2-1.given))), (omega (arith, e.1), omega (arith, e.1, p)))
+    let e = written-end (rw c.in-Done.is at c.list_pass-passed.ensures.0).1 in
+    ((e.0, (omega (arith, e.1, p), omega (arith, e.1, p))), (omega (arith, e.1), omega (arith, e.1, p)))
 
 pub returns-in-Done : goal.returns-in-Done
 returns-in-Done c = let r = c.lay_text.ensures in
-    called-done _ _ _ _ _ _ _ _ (at_front _ _ _ c.set_cells.ensures) (omega arith) _ _ _ _ _ (rw c.passed-1.given.1 at c.list_pass-passed.ensures.0) r.0 r.1
+    called-done _ _ _ _ _ _ _ _ (at_front _ _ _ c.set_cells.ensures) (omega arith) _ _ _ _ _ (rw c.in-Done.is at c.list_pass-passed.ensures.0) r.0 r.1
 
 pub returns-in-Full : goal.returns-in-Full
 returns-in-Full c = let r = c.refuse.ensures in
-    called-full _ _ _ _ _ _ _ _ (at_front _ _ _ c.set_cells.ensures) (omega arith) (rw c.enum_told-1.given.1 at c.list_pass-passed.ensures.0) r.0 r.1
+    called-full _ _ _ _ _ _ _ _ (at_front _ _ _ c.set_cells.ensures) (omega arith) (rw c.in-Full.is at c.list_pass-passed.ensures.0) r.0 r.1
 
 pub returns-in-TooDeep : goal.returns-in-TooDeep
 returns-in-TooDeep c = let r = c.refuse-in-TooDeep.ensures in
-    called-deep _ _ _ _ _ _ _ _ (at_front _ _ _ c.set_cells.ensures) refl (rw c.enum_told-in-TooDeep-1.given.1 at c.list_pass-passed.ensures.0) r.0 r.1
+    called-deep _ _ _ _ _ _ _ _ (at_front _ _ _ c.set_cells.ensures) refl (rw c.in-TooDeep.is at c.list_pass-passed.ensures.0) r.0 r.1

@@ -1,6 +1,5 @@
 use native.Mathlib.Omega.{arith}
 use mathlib.Core.Path.{refl}
-use Prim.Native.Nat.{◌-◌}
 use Rattle.lists.proofs.lay_text.Goals as goal
 
 pub overflow_sub-result : goal.overflow_sub-result

@@ -1,5 +1,4 @@
 use native.Mathlib.Omega.{arith}
-use Prim.Native.Nat.{◌-◌}
 use Rattle.attribution_losses.proofs.Joining.{put-nothing, put-field, put_first, put_next}
 use Rattle.attribution_losses.proofs.join.put_more.Goals as goal
 

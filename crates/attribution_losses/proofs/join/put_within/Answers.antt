@@ -1,6 +1,5 @@
 use native.Mathlib.Omega.{arith}
 use mathlib.Core.Path.{sym, ap}
-use Prim.Native.Nat.{◌-◌}
 use Rattle.attribution_losses.proofs.Joining.{byte-kept}
 use Rattle.attribution_losses.proofs.Listing.{puts_none, puts-turn, puts-as, bytes-none}
 use Rattle.attribution_reading.specs.Places.{bytes}

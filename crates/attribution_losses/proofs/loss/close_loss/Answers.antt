@@ -1,4 +1,3 @@
-use Prim.Native.Nat.{◌-◌}
 use Rattle.attribution_losses.proofs.Listing.{no_record, one-record}
 use Rattle.attribution_losses.proofs.loss.close_loss.Goals as goal
 

@@ -1,5 +1,4 @@
 use mathlib.Core.Path.{◌∙◌}
-use Prim.Native.Nat.{◌-◌}
 use native.Mathlib.Nat.{zero-add}
 use Rattle.attribution_losses.proofs.Losing.{listed-counts}
 use Rattle.attribution_losses.proofs.loss.count_losses.Goals as goal

@@ -1,5 +1,4 @@
 use mathlib.Core.Path.{sym}
-use Prim.Native.Nat.{◌-◌}
 use Rattle.text.proofs.Decide.{decide}
 use Rattle.attribution_losses.proofs.loss.is_at.Goals as goal
 

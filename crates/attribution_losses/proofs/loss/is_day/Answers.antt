@@ -1,6 +1,5 @@
 use native.Mathlib.Omega.{arith}
 use mathlib.Core.Path.{◌∙◌}
-use Prim.Native.Nat.{◌-◌}
 use Rattle.attribution_losses.proofs.Losing.{day-is}
 use Rattle.attribution_losses.proofs.loss.is_day.Goals as goal
 

@@ -1,4 +1,3 @@
-use Prim.Native.Nat.{◌-◌}
 use borrow.Author.Tests.{eq-eqb, ne_eqb}
 use Rattle.attribution_losses.specs.Lists.{passed_by}
 use Rattle.attribution_losses.proofs.loss.is_passed.Goals as goal

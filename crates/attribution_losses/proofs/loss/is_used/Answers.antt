@@ -1,4 +1,3 @@
-use Prim.Native.Nat.{◌-◌}
 use Rattle.attribution_losses.specs.Lists.{used_by}
 use Rattle.text.proofs.Decide.{asked}
 use Rattle.attribution_losses.proofs.loss.is_used.Goals as goal

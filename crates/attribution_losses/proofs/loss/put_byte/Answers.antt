@@ -1,4 +1,3 @@
-use Prim.Native.Nat.{◌-◌}
 use Rattle.attribution_losses.proofs.Listing.{puts-set, puts-past}
 use Rattle.attribution_losses.proofs.loss.put_byte.Goals as goal
 

@@ -1,6 +1,5 @@
 use native.Mathlib.Omega.{arith}
 use mathlib.Core.Path.{sym, ◌∙◌}
-use Prim.Native.Nat.{◌-◌}
 use Rattle.attribution_losses.proofs.Losing.{run-here, no-loss, one-loss, run-loss, used-field, lost-field, silent-text, lost-quoted, lost-run, as-quoted, as-run, text-either}
 use Rattle.attribution_losses.proofs.loss.put_group.Goals as goal
 

@@ -1,10 +1,9 @@
 use native.Mathlib.Omega.{arith}
-use Prim.Native.Nat.{◌-◌}
 use Rattle.attribution_losses.proofs.Losing.{lose-start, lose-turn, lose-end}
 use Rattle.attribution_losses.proofs.loss.put_groups.Goals as goal
 
 pub loop-at-init : goal.loop-at-init
-loop-at-init c = let a = c.args in lose-start a.s.now a.first a.start a.quote a.line a.records.now a.count a.loss-bytes.now a.before c.requires.1.1
+loop-at-init c = let a = c.args in lose-start a.s.now a.first a.start a.quote a.line a.records.now a.count a.loss_bytes.now a.before c.requires.1.1
 
 pub put_group-g-requires : goal.put_group-g-requires
 put_group-g-requires c = (c.loop-at-test.true, (c.requires.1.0, c.loop-at.invariant.here))
@@ -16,7 +15,7 @@ pub loop-at-smaller : goal.loop-at-smaller
 loop-at-smaller c = let g = c.put_group-g.ensures in omega (arith, g.grows, g.stands.inside)
 
 pub loop-at-preserved : goal.loop-at-preserved
-loop-at-preserved c = let a = c.args in lose-turn a.s.now a.first a.start a.quote a.line a.records.now a.count a.loss-bytes.now a.before _ _ _ _ _ _ c.loop-at.invariant _ _ _ _ c.put_group-g.ensures c.close_loss-k.ensures
+loop-at-preserved c = let a = c.args in lose-turn a.s.now a.first a.start a.quote a.line a.records.now a.count a.loss_bytes.now a.before _ _ _ _ _ _ c.loop-at.invariant _ _ _ _ c.put_group-g.ensures c.close_loss-k.ensures
 
 pub shape_of-records : goal.shape_of-records
 shape_of-records c = c.loop-at.invariant.lists.records.size
@@ -25,4 +24,4 @@ pub shape_of-loss_bytes : goal.shape_of-loss_bytes
 shape_of-loss_bytes c = c.loop-at.invariant.lists.words.size
 
 pub returns : goal.returns
-returns c = let a = c.args in lose-end a.s.now a.first a.start a.quote a.line a.records.now a.count a.loss-bytes.now a.before _ _ _ _ _ _ c.loop-at.invariant c.loop-at-test.false
+returns c = let a = c.args in lose-end a.s.now a.first a.start a.quote a.line a.records.now a.count a.loss_bytes.now a.before _ _ _ _ _ _ c.loop-at.invariant c.loop-at-test.false

@@ -1,12 +1,10 @@
 use native.Mathlib.Omega.{arith}
 use mathlib.Core.Path.{sym, ◌∙◌}
-use Prim.Native.Nat.{◌-◌}
-use borrow.Author.Tests.{not-true}
 use Rattle.attribution_losses.proofs.Losing.{groups-room, all_listed, none-listed}
 use Rattle.attribution_losses.proofs.loss.put_losses.Goals as goal
 
 pub returns-then-not-has_equals : goal.returns-then-not-has_equals
-returns-then-not-has_equals c = let a = c.args in none-listed a.attribution.now (sym c.has_equals.ensures ∙ not-true _ c.if-not-has_equals.true) a.quote a.line _ a.k _ a.at
+returns-then-not-has_equals c = let a = c.args in none-listed a.attribution.now (sym c.has_equals.ensures ∙ c.if-not-has_equals.true) a.quote a.line _ a.k _ a.at
 
 pub put_passed-c-requires : goal.put_passed-c-requires
 put_passed-c-requires c = let pre = c.requires in (omega (arith, pre.0), omega (arith, pre.1))

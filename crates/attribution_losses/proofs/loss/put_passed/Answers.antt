@@ -1,5 +1,4 @@
 use native.Mathlib.Omega.{arith}
-use Prim.Native.Nat.{◌-◌}
 use Rattle.attribution_reading.specs.Places.{bytes}
 use Rattle.attribution_losses.proofs.Losing.{one-passed, none_passed}
 use Rattle.attribution_losses.proofs.loss.put_passed.Goals as goal
@@ -12,4 +11,4 @@ pub returns-then-passed : goal.returns-then-passed
 returns-then-passed c = let a = c.args in one-passed a.passed c.if-passed.true a.quote a.line _ _ _ _ _ _ _ _ c.close_loss-n.ensures.0 c.put_bytes-e.ensures
 
 pub returns : goal.returns
-returns c = let a = c.args in none_passed a.passed c.if-passed.false a.quote a.line a.records.now a.k a.loss-bytes.now a.at
+returns c = let a = c.args in none_passed a.passed c.if-passed.false a.quote a.line a.records.now a.k a.loss_bytes.now a.at

@@ -1,6 +1,5 @@
 use native.Mathlib.Omega.{arith}
 use mathlib.Core.Path.{refl}
-use Prim.Native.Nat.{◌-◌}
 use Rattle.attribution_losses.proofs.Listing.{record-put}
 use Rattle.attribution_losses.proofs.loss.put_record.Goals as goal
 

@@ -1,5 +1,4 @@
 use native.Mathlib.Omega.{arith}
-use Prim.Native.Nat.{◌-◌}
 use Rattle.attribution_losses.proofs.Losing.{run-start, run-done, run-turn, run_ends, run-ends-field, run-ends-quoted, as-quoted}
 use Rattle.attribution_losses.proofs.loss.put_run.Goals as goal
 

@@ -1,5 +1,4 @@
 use mathlib.Core.Path.{refl, sym}
-use Prim.Native.Nat.{◌-◌}
 use borrow.Author.Tests.{eq-eqb, ne_eqb}
 use Rattle.text.proofs.Decide.{cond_yes, cond_no}
 use Rattle.attribution_reading.proofs.facts.earlier.Goals as goal

@@ -1,5 +1,4 @@
 use mathlib.Core.Path.{sym, ◌∙◌}
-use Prim.Native.Nat.{◌-◌}
 use Rattle.attribution_reading.proofs.Fielding.{digits-none, digits-some}
 use Rattle.attribution_reading.proofs.facts.is_digits.Goals as goal
 

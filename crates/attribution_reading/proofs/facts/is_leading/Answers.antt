@@ -1,5 +1,4 @@
 use mathlib.Core.Path.{sym, ◌∙◌}
-use Prim.Native.Nat.{◌-◌}
 use Rattle.attribution_reading.proofs.Ids.{no-lead-field, no-lead-run, lead-digits}
 use Rattle.attribution_reading.proofs.facts.is_leading.Goals as goal
 

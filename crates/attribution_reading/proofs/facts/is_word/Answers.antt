@@ -1,5 +1,4 @@
 use mathlib.Core.Path.{sym, ◌∙◌}
-use Prim.Native.Nat.{◌-◌}
 use Rattle.attribution_reading.proofs.Fielding.{word-begins, word-other}
 use Rattle.attribution_reading.proofs.facts.is_word.Goals as goal
 

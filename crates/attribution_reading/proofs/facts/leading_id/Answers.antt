@@ -1,6 +1,5 @@
 use native.Mathlib.Omega.{arith}
 use mathlib.Core.Path.{sym, ◌∙◌}
-use Prim.Native.Nat.{◌-◌}
 use Rattle.attribution_reading.proofs.Ids.{lead-end, lead-unquoted, lead-other, lead-found}
 use Rattle.attribution_reading.proofs.facts.leading_id.Goals as goal
 

@@ -1,6 +1,5 @@
 use native.Mathlib.Omega.{arith}
 use mathlib.Core.Path.{sym, ap, ◌∙◌}
-use Prim.Native.Nat.{◌-◌}
 use mathlib.Core.Bool.{not}
 use Rattle.text.proofs.Bytes.{look, look-here, look-on, look-end}
 use Rattle.attribution_parts.specs.Parts.{in_key}

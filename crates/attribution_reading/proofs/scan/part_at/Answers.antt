@@ -1,6 +1,5 @@
 use native.Mathlib.Omega.{arith}
 use mathlib.Core.Path.{sym, ◌∙◌}
-use Prim.Native.Nat.{◌-◌}
 use Rattle.attribution_reading.proofs.Laws.{part-text, part_field, no_start, no_more, no-equals, value-run, key-run, key-unquoted}
 use Rattle.attribution_reading.proofs.scan.part_at.Goals as goal
 

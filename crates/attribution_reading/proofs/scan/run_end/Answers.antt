@@ -1,6 +1,5 @@
 use native.Mathlib.Omega.{arith}
 use mathlib.Core.Path.{sym, ◌∙◌}
-use Prim.Native.Nat.{◌-◌}
 use Rattle.text.proofs.Bytes.{look, look-here, look-on, look-end}
 use Rattle.attribution_parts.specs.Parts.{is_space}
 use Rattle.attribution_reading.proofs.scan.run_end.Goals as goal

@@ -1,4 +1,3 @@
-use Prim.Native.Nat.{◌-◌}
 use Rattle.attribution_reading.proofs.Laws.{scanned}
 use Rattle.attribution_reading.proofs.scan.scan_at.Goals as goal
 

@@ -1,5 +1,4 @@
 use native.Mathlib.Omega.{arith}
-use Prim.Native.Nat.{◌-◌}
 use Rattle.attribution_reading.proofs.Laws.{value-run, value-quoted, end-unquoted, other-unquoted, open-unquoted}
 use Rattle.attribution_reading.proofs.scan.value_at.Goals as goal
 

@@ -1,5 +1,4 @@
 use native.Mathlib.Omega.{arith}
-use Prim.Native.Nat.{◌-◌}
 use Rattle.list_blocks.proofs.BlockLaws.{head-here, head-none}
 use Rattle.list_blocks.proofs.block.place_of.Goals as goal
 

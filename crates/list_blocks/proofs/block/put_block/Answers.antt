@@ -1,15 +1,12 @@
 use native.Mathlib.Omega.{arith}
 use mathlib.Core.Path.{refl}
-use Prim.Native.Nat.{◌+◌, ◌-◌}
+use Prim.Native.Nat.{◌+◌}
 use Rattle.list_blocks.proofs.BlockLaws.{trim-part, rises-here, rises_next, rises-within}
 use Rattle.list_blocks.proofs.Kept.{kept_table, block-items-in, block-lead-in}
 use Rattle.list_blocks.proofs.block.put_block.Goals as goal
 
 pub bounds-numbers-lead : goal.bounds-numbers-lead
 bounds-numbers-lead c = omega (arith, c.requires.0.0, c.requires.1.table.0)
-
-pub overflow_cast-a : goal.overflow_cast-a
-overflow_cast-a c = omega (arith, c.type_inv.numbers c.args.k.0)
 
 pub place_of-b-requires : goal.place_of-b-requires
 place_of-b-requires c = c.requires.1.table.0
@@ -30,14 +27,14 @@ trim_end-y-requires c = let z = c.requires.1 in
 
 pub put_items-requires : goal.put_items-requires
 put_items-requires c = let z = c.requires.1 in (
-      (omega (arith, c.requires.0.1), omega arith),
-      record {
-        table = (z.table.0, λ d. let y = z.table.1 d in omega (arith, y));
-        rises = rises_next c.args.k.0 c.args.last.0 c.args.e.0 _ c.requires.0.0 z.table.0 z.rises;
-        parts = z.parts;
-        fits = z.fits;
-      },
-    )
+  (omega (arith, c.requires.0.1), omega arith),
+  record {
+    table = (z.table.0, λ d. let y = z.table.1 d in omega (arith, y));
+    rises = rises_next c.args.k.0 c.args.last.0 c.args.e.0 _ c.requires.0.0 z.table.0 z.rises;
+    parts = z.parts;
+    fits = z.fits;
+  },
+)
 
 pub returns-then-i-j : goal.returns-then-i-j
 returns-then-i-j c = block-items-in _ _ _ _ _ _ _ _ _ _ _ c.requires.0.0 c.requires.1.table.0 refl c.place_of-b.ensures (trim-part _ _ _ _ _ c.trim_start-x.ensures.1.1 c.trim_end-y.ensures.1.1) c.if-i-j.true c.put_items.ensures

@@ -1,7 +1,6 @@
 use borrow.Author.Rules.{rules}
 use native.Mathlib.Omega.{arith}
 use mathlib.Core.Path.{refl}
-use Prim.Native.Nat.{◌-◌}
 use Rattle.text.proofs.Areas.{WritingIn, start_in}
 use Rattle.list_blocks.proofs.BlockLaws.{rises_next}
 use Rattle.list_blocks.proofs.Kept.{items-here, items-turn-in, items-done-in}
@@ -10,9 +9,6 @@ use Rattle.list_blocks.proofs.block.put_items.Goals as goal
 pub loop-i-init : goal.loop-i-init
 loop-i-init c = let p = c.requires in
     (search rules, refl, refl, omega arith, omega (arith, p.0.1), p.1.rises, start_in _ _ _ _ _)
-
-pub overflow_cast-a : goal.overflow_cast-a
-overflow_cast-a c = omega (arith, c.type_inv.numbers c.loop-i.i)
 
 pub put_next-next-requires : goal.put_next-next-requires
 put_next-next-requires c = let l = c.loop-i in

@@ -1,4 +1,3 @@
-use Prim.Native.Nat.{◌-◌}
 use Rattle.list_blocks.proofs.Markers.{width-plain, width-ordered}
 use Rattle.list_blocks.proofs.item.marker_width.Goals as goal
 

@@ -1,7 +1,6 @@
 use borrow.Author.Rules.{rules}
 use native.Mathlib.Omega.{arith}
 use mathlib.Core.Path.{refl}
-use Prim.Native.Nat.{◌-◌}
 use Rattle.text.proofs.Areas.{WritingIn, start_in}
 use Rattle.list_blocks.proofs.Kept.{later-turn-in, later-done-in}
 use Rattle.list_blocks.proofs.item.put_later_lines.Goals as goal

@@ -1,4 +1,3 @@
-use Prim.Native.Nat.{◌-◌}
 use Rattle.list_blocks.proofs.Values.{cells-bytes, begins-six, second-letter}
 use Rattle.list_blocks.specs.Tags.{tag_at}
 use Rattle.text.proofs.Decide.{asked}

@@ -1,7 +1,6 @@
 use borrow.Author.Rules.{rules}
 use native.Mathlib.Omega.{arith}
 use mathlib.Core.Path.{sym, ◌∙◌}
-use Prim.Native.Nat.{◌-◌}
 use borrow.Author.Tests.{eqb-true, eqb-false}
 use Rattle.list_blocks.proofs.Values.{passes-start, passes-end, passes-bracket, passes-other, passes-blank}
 use Rattle.text.proofs.Writing.{cells-le}

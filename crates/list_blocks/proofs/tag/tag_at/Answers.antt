@@ -1,4 +1,3 @@
-use Prim.Native.Nat.{◌-◌}
 use Rattle.list_blocks.proofs.Values.{other-first, letter-is, second-star, star-alone, second-slash, slash-alone, other-second}
 use Rattle.list_blocks.proofs.tag.tag_at.Goals as goal
 

@@ -1,5 +1,4 @@
 use native.Mathlib.Omega.{arith}
-use Prim.Native.Nat.{◌-◌}
 use Rattle.list_blocks.proofs.Values.{valued-short, valued-other, valued-end, valued-longer, valued_one}
 use Rattle.list_blocks.proofs.tag.valued_at.Goals as goal
 

@@ -1,6 +1,6 @@
 use borrow.Author.Rules.{rules}
 use native.Mathlib.Omega.{arith}
-use Prim.Native.Nat.{◌+◌, ◌-◌}
+use Prim.Native.Nat.{◌+◌}
 use Rattle.list_steps.proofs.Closes.{ready-framed, ready-start}
 use Rattle.list_steps.proofs.Within.{closes-full-in, closes-done-in}
 use Rattle.list_steps.proofs.Outside.{stays_then, stays-appends}
@@ -97,7 +97,7 @@ returns c = let p = c.requires in
     let a = c.copy_back-to.ensures in
     let b = ready-start _ _ _ _ _ _ _ _ _ p.0 p.1.0 in (
       (
-        closes-done-in p.0 p.1.0 z.0.1 (omega (arith, z.0.0)) z.1.0 (omega (arith, z.0.1, r)) (omega (arith, c.work-1.given)) (search rules) q _ t _ _ _ (search rules) c.if-limit-size.false a,
+        closes-done-in p.0 p.1.0 z.0.1 (omega (arith, z.0.0)) z.1.0 (omega (arith, z.0.1, r)) (omega arith) (search rules) q _ t _ _ _ (search rules) c.if-limit-size.false a,
         omega (arith, fr.inner.1),
         stays_then (stays-appends z.0.0 (omega arith) q) (stays-appends b (omega arith) a),
       ),

@@ -1,5 +1,4 @@
 use mathlib.Core.Path.{sym}
-use Prim.Native.Nat.{◌-◌}
 use Rattle.list_steps.specs.Standing.{feeds_before}
 use Rattle.text.proofs.Decide.{decide}
 use Rattle.list_steps.proofs.close.feeds_before.Goals as goal

@@ -1,5 +1,4 @@
 use mathlib.Core.Path.{sym}
-use Prim.Native.Nat.{◌-◌}
 use Rattle.text.proofs.Decide.{decide}
 use Rattle.list_steps.proofs.close.feeds_behind.Goals as goal
 

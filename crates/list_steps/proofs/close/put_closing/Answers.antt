@@ -1,5 +1,5 @@
 use native.Mathlib.Omega.{arith}
-use Prim.Native.Nat.{◌+◌, ◌-◌}
+use Prim.Native.Nat.{◌+◌}
 use native.Mathlib.Nat.{le_refl}
 use Rattle.list_blocks.proofs.Kept.{kept_table}
 use Rattle.list_steps.proofs.Within.{closing-in}
@@ -41,7 +41,7 @@ put_block-y-requires c = let fr = c.requires.0 in
 
 pub put_feeds-requires : goal.put_feeds-requires
 put_feeds-requires c = let fr = c.requires.0 in
-    (omega (arith, c.requires.1.1.1, c.work-2-1.given, c.work-1.given), omega (arith, c.requires.1.1.0, fr.inner, fr.fits.1.1, c.numbers-2-1.given, c.numbers-1.given))
+    (omega (arith, c.requires.1.1.1), omega (arith, c.requires.1.1.0, fr.inner, fr.fits.1.1))
 
 pub returns : goal.returns
 returns c = closing-in c.args.areas.table.0 c.args.st.at.0 c.args.st.top.0 c.args.st.first.0 c.requires.0 c.requires.1.0.0 c.requires.1.1.0 c.feeds_before-before.ensures c.feeds_behind-behind.ensures c.is_ordered.ensures c.is_second.ensures c.put_feeds-x.ensures c.put_block-y.ensures c.put_feeds.ensures

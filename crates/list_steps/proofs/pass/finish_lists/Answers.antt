@@ -1,7 +1,6 @@
 use borrow.Author.Rules.{rules}
 use native.Mathlib.Omega.{arith}
 use mathlib.Core.Path.{refl}
-use Prim.Native.Nat.{◌-◌}
 use Rattle.list_steps.proofs.Steppings.{ready-base}
 use Rattle.list_steps.proofs.Runs.{ready-next, finish-turn, finish-over, none_open, ends-done}
 use Rattle.list_steps.proofs.Outside.{stays-none, stays_then}

@@ -1,7 +1,6 @@
 use borrow.Author.Rules.{rules}
 use native.Mathlib.Omega.{arith}
 use mathlib.Core.Path.{refl, sym, ap, ◌∙◌}
-use Prim.Native.Nat.{◌-◌}
 use mathlib.Core.List.{List}
 use lib.ListN.{take}
 use Rattle.text.specs.Cells.{Cell, cells, part}
@@ -66,13 +65,13 @@ stopped-requires c = let p = c.requires in
     let l = c.loop-i in
     let v = l.invariant in
     let z = p.1.0 in
-    ((v.1, v.6), (omega (arith, c.work3.given, v.0.0, p.0.1, z.0.0, z.1.0), (omega (arith, c.numbers2.given, v.0.1, p.0.1, z.0, p.1.1), omega (arith, c.numbers2.given, v.0.1, z.1.1))))
+    ((v.1, v.6), (omega (arith, c.step-st.auto.work, v.0.0, p.0.1, z.0.0, z.1.0), (omega (arith, c.step-st.auto.numbers, v.0.1, p.0.1, z.0, p.1.1), omega (arith, c.step-st.auto.numbers, v.0.1, z.1.1))))
 
 pub shape_of-work-then-end-at : goal.shape_of-work-then-end-at
-shape_of-work-then-end-at c = omega (arith, c.loop-i.invariant.0.0, c.work3.given)
+shape_of-work-then-end-at c = omega (arith, c.loop-i.invariant.0.0, c.step-st.auto.work)
 
 pub shape_of-numbers-then-end-at : goal.shape_of-numbers-then-end-at
-shape_of-numbers-then-end-at c = omega (arith, c.loop-i.invariant.0.1, c.numbers2.given)
+shape_of-numbers-then-end-at c = omega (arith, c.loop-i.invariant.0.1, c.step-st.auto.numbers)
 
 pub returns-then-end-at : goal.returns-then-end-at
 returns-then-end-at c = let p = c.requires in
@@ -83,9 +82,9 @@ returns-then-end-at c = let p = c.requires in
     let k = room x.areas.base.0 x.areas.end.0 x.areas.table.0 _ _ _ z.0.0 z.0.1 z.1.0 p.1.1 in
     let lb = before-length x.work.now x.numbers.now x.areas.base.0 x.areas.end.0 z.0.0 k.0 k.1.0 in
     let q = c.step-st.ensures in
-    let d = turn-left _ _ _ _ x.areas.base.0 _ _ _ _ _ _ _ l.i _ v.5 lb v.2 (omega (arith, v.0.0, k.0)) (omega (arith, v.0.1, k.1.0)) c.loop-i-test.true p.0.1 _ c.tag_at-tag.ensures _ c.rest_of-n.ensures _ _ (stays-cells q.2) (omega (arith, v.0.0, c.work3.given, k.0)) (omega (arith, v.0.1, c.numbers2.given, k.1.0)) in (
+    let d = turn-left _ _ _ _ x.areas.base.0 _ _ _ _ _ _ _ l.i _ v.5 lb v.2 (omega (arith, v.0.0, k.0)) (omega (arith, v.0.1, k.1.0)) c.loop-i-test.true p.0.1 _ c.tag_at-tag.ensures _ c.rest_of-n.ensures _ _ (stays-cells q.2) (omega (arith, v.0.0, c.step-st.auto.work, k.0)) (omega (arith, v.0.1, c.step-st.auto.numbers, k.1.0)) in (
       passes-stopped (part x.a.0 x.e.0 (cells x.work.now x.numbers.now)) _ _ _ _ _ _ (v.7 ∙ sym (ap (λ (w : List Cell). deeper l.depth (tokens 0 w)) d))
-          (turn-over _ _ _ _ x.areas.base.0 _ _ _ _ _ _ _ l.i _ v.5 lb v.2 (omega (arith, v.0.0, k.0)) (omega (arith, v.0.1, k.1.0)) c.loop-i-test.true p.0.1 _ c.tag_at-tag.ensures _ c.rest_of-n.ensures _ _ _ _ _ _ q.0 (omega (arith, v.0.0, c.work3.given, k.0)) (omega (arith, v.0.1, c.numbers2.given, k.1.0)) c.if-end-at.true)
+          (turn-over _ _ _ _ x.areas.base.0 _ _ _ _ _ _ _ l.i _ v.5 lb v.2 (omega (arith, v.0.0, k.0)) (omega (arith, v.0.1, k.1.0)) c.loop-i-test.true p.0.1 _ c.tag_at-tag.ensures _ c.rest_of-n.ensures _ _ _ _ _ _ q.0 (omega (arith, v.0.0, c.step-st.auto.work, k.0)) (omega (arith, v.0.1, c.step-st.auto.numbers, k.1.0)) c.if-end-at.true)
           c.stopped.ensures,
       stays_then v.8 q.2,
     )

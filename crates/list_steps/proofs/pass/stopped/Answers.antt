@@ -1,6 +1,5 @@
 use mathlib.Core.Path.{sym, ap, ◌∙◌}
 use mathlib.Core.Bool.{Bool, cond}
-use Prim.Native.Nat.{◌-◌}
 use Rattle.list_steps.specs.declared.pass.Passed.TheVariants.{Full, TooDeep}
 use Rattle.list_steps.proofs.pass.stopped.Goals as goal
 

@@ -1,6 +1,5 @@
 use native.Mathlib.Omega.{arith}
 use mathlib.Core.Path.{refl, sym, ◌∙◌}
-use Prim.Native.Nat.{◌-◌}
 use Rattle.list_steps.proofs.Depths.{depth-size, depth-over, depth-goes, depth-end}
 use Rattle.list_steps.proofs.pass.too_deep.Goals as goal
 

@@ -1,6 +1,5 @@
 use borrow.Author.Rules.{rules}
 use native.Mathlib.Omega.{arith}
-use Prim.Native.Nat.{◌-◌}
 use Rattle.list_steps.proofs.Steppings.{ready-base, keeps-step}
 use Rattle.text.proofs.Writing.{cells-le}
 use Rattle.list_steps.proofs.Outside.{stays-appends}

@@ -1,4 +1,3 @@
-use Prim.Native.Nat.{◌-◌}
 use Rattle.list_steps.specs.Standing.{kind_of}
 use Rattle.list_steps.proofs.step.kind_of.Goals as goal
 

@@ -1,5 +1,4 @@
 use native.Mathlib.Omega.{arith}
-use Prim.Native.Nat.{◌-◌}
 use lib.ListN.{drop}
 use Rattle.text.specs.Cells.{cells}
 use Rattle.list_steps.proofs.Steppings.{ready-base, stray-item, counting-item}

@@ -1,5 +1,4 @@
 use mathlib.Core.Path.{sym}
-use Prim.Native.Nat.{◌-◌}
 use Rattle.mark_tags.specs.Flat.{bit_of}
 use Rattle.text.proofs.Decide.{decide}
 use Rattle.mark_items.proofs.items.bit_of.Goals as goal

@@ -1,6 +1,5 @@
 use native.Mathlib.Omega.{arith}
 use mathlib.Core.Path.{sym}
-use Prim.Native.Nat.{◌-◌}
 use Rattle.mark_items.proofs.Stack.{code-none, code-ends, code_other}
 use Rattle.mark_tags.specs.Flat.{code_of}
 use Rattle.text.proofs.Decide.{decide}

@@ -1,7 +1,6 @@
 use borrow.Author.Rules.{rules}
 use native.Mathlib.Omega.{arith}
 use mathlib.Core.Path.{refl}
-use Prim.Native.Nat.{◌-◌}
 use Rattle.mark_items.proofs.Merging.{merging_start, merging-turn, merging-end}
 use Rattle.mark_items.proofs.items.merge.Goals as goal
 

@@ -1,4 +1,3 @@
-use Prim.Native.Nat.{◌-◌}
 use Rattle.mark_items.proofs.Merging.{itemed}
 use Rattle.mark_items.proofs.items.read_items.Goals as goal
 

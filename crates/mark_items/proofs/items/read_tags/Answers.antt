@@ -1,7 +1,7 @@
 use borrow.Author.Rules.{rules}
 use native.Mathlib.Omega.{arith}
 use mathlib.Core.Path.{refl, sym, ap, ◌∙◌}
-use Prim.Native.Nat.{ℕ, ◌+◌, ◌-◌}
+use Prim.Native.Nat.{ℕ, ◌+◌}
 use mathlib.Core.List.{List, []}
 use lib.ListN.{length}
 use lib.ListN.{length-set}
@@ -122,7 +122,7 @@ put_item-requires-2 c = let l = c.loop-i in
     let f = l.invariant.1.from in
     let g = l.invariant.1.few in
     let h = l.invariant.1.deep in
-    let u = l.invariant.1.up_to_lem in
+    let u = l.invariant.1.up_to in
     search rules
 
 pub shape_of-nums : goal.shape_of-nums

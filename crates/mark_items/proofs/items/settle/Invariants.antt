@@ -1,5 +1,4 @@
 use mathlib.Core.Path.{◌≡◌}
-use Prim.Native.Nat.{◌-◌}
 use lib.ListN.{length}
 use Rattle.mark_items.proofs.Settling.{Settling}
 use Rattle.mark_items.proofs.items.settle.Given as goal

@@ -1,5 +1,4 @@
 use native.Mathlib.Omega.{arith}
-use Prim.Native.Nat.{◌-◌}
 use Rattle.mark_items.proofs.Settling.{settled-leave, settled-kept, settled-text, settled-mark}
 use Rattle.mark_items.proofs.items.settle_item.Goals as goal
 

@@ -1,5 +1,4 @@
 use native.Mathlib.Omega.{arith}
-use Prim.Native.Nat.{◌-◌}
 use Rattle.mark_items.proofs.Stack.{ended-deep}
 use Rattle.mark_items.proofs.Stack.{stacked-open, stacked-end, stacked-other}
 use Rattle.mark_items.proofs.items.stack_after.Goals as goal

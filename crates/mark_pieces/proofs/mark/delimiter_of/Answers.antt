@@ -1,5 +1,4 @@
 use mathlib.Core.Path.{◌≡◌, sym, ap}
-use Prim.Native.Nat.{◌-◌}
 use Rattle.mark_tags.specs.Marks.{delimiter, bold, italic, underline, strike}
 use Rattle.mark_tags.specs.Flat.{kind_numbered}
 use Rattle.text.proofs.Decide.{decide}

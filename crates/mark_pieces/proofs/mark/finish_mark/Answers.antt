@@ -1,5 +1,4 @@
 use mathlib.Core.Path.{sym, ◌∙◌}
-use Prim.Native.Nat.{◌-◌}
 use lib.Seq.{length-take-le}
 use Rattle.mark_pieces.proofs.Besides.{finished-in}
 use Rattle.mark_pieces.proofs.mark.finish_mark.Goals as goal
@@ -17,4 +16,4 @@ pub returns : goal.returns
 returns c = let m = c.finish in
     let x = length-take-le c.args.end c.args.buf.now c.requires.1.0 in
     let y = length-take-le c.args.end c.args.nums.now c.requires.1.1 in
-    finished-in c.args.buf.now c.args.nums.now _ _ c.args.end (m.auto.0 ∙ x) (m.auto.1.0 ∙ y) m.ensures
+    finished-in c.args.buf.now c.args.nums.now _ _ c.args.end (m.auto.buf ∙ x) (m.auto.nums ∙ y) m.ensures

@@ -1,5 +1,4 @@
 use native.Mathlib.Omega.{arith}
-use Prim.Native.Nat.{◌-◌}
 use lib.ListN.{length}
 use Rattle.mark_pieces.proofs.Listing.{listed, second-within}
 use Rattle.mark_pieces.proofs.mark.put_span.Goals as goal

@@ -1,4 +1,3 @@
-use Prim.Native.Nat.{◌-◌}
 use Rattle.mark_pieces.proofs.Besides.{escaped-in, unescaped-in}
 use Rattle.mark_pieces.proofs.piece.copy_escaped.Goals as goal
 

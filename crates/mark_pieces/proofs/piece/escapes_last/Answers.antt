@@ -1,5 +1,5 @@
 use mathlib.Core.Path.{◌≡◌}
-use Prim.Native.Nat.{ℕ, ◌-◌}
+use Prim.Native.Nat.{ℕ}
 use mathlib.Core.List.{List}
 use mathlib.Core.Bool.{Bool, true, false, ◌&&◌}
 use lib.ListN.{take, drop, get_or}
@@ -13,7 +13,6 @@ module _ (src : List ℕ) (a last : ℕ) (m t : Bool) (em : m ≡ true) (et : t 
 
   touches-not : t ≡ false → false ≡ (touching m (get_or src last 0) && even_run true (drop a (take last src)))
   touches-not e = rw (em, ← et, e)
-
 
 pub returns-then-is_touching : goal.returns-then-is_touching
 returns-then-is_touching c = let a = c.args in

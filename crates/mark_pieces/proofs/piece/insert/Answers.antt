@@ -1,7 +1,6 @@
 use borrow.Author.Rules.{rules}
 use native.Mathlib.Omega.{arith}
 use mathlib.Core.Path.{◌≡◌, refl}
-use Prim.Native.Nat.{◌-◌}
 use Rattle.mark_pieces.proofs.Pieces.{moved-start, insert-turn, insert-done, inserts-full, cells-long}
 use Rattle.mark_pieces.proofs.piece.insert.Goals as goal
 

@@ -1,8 +1,6 @@
 use borrow.Author.Rules.{rules}
 use native.Mathlib.Omega.{arith}
 use mathlib.Core.Path.{refl, sym, ◌∙◌}
-use Prim.Native.Nat.{◌-◌}
-use mathlib.Core.Bool.{true}
 use Rattle.mark_pieces.proofs.Pieces.{even-none, even-other, even-turn}
 use Rattle.mark_pieces.proofs.piece.is_even.Goals as goal
 

@@ -1,5 +1,4 @@
 use mathlib.Core.Path.{refl}
-use Prim.Native.Nat.{◌-◌}
 use Rattle.mark_pieces.proofs.Besides.{piece-in}
 use Rattle.mark_pieces.proofs.piece.write_piece.Goals as goal
 

@@ -1,5 +1,4 @@
 use mathlib.Core.Path.{sym, ap}
-use Prim.Native.Nat.{◌-◌}
 use Rattle.mark_tags.specs.Flat.{tag_number}
 use Rattle.mark_tags.proofs.TagNumbers.{tag-at, no-tag}
 use Rattle.mark_tags.proofs.tags.tag_at.Goals as goal

@@ -1,6 +1,6 @@
 use borrow.Author.Rules.{rules}
 use mathlib.Core.Path.{ap, ◌∙◌}
-use Prim.Native.Nat.{ℕ, ◌-◌}
+use Prim.Native.Nat.{ℕ}
 use mathlib.Core.Bool.{◌&&◌}
 use Rattle.text.specs.Ascii.{is}
 use Rattle.mark_tags.specs.Marks.{kind_of, tag_of_bytes}

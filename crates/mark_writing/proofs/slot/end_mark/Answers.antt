@@ -1,6 +1,5 @@
 use native.Mathlib.Omega.{arith}
 use mathlib.Core.Path.{refl}
-use Prim.Native.Nat.{◌-◌}
 use lib.Seq.{length-take-le}
 use Rattle.mark_writing.proofs.SlotAsking.{ones-few, behind-ready, next_small}
 use Rattle.mark_writing.proofs.MarkWriting.{mark-full, mark-asks, mark-written}
@@ -41,7 +40,7 @@ returns c = let a = c.args in
     let z = c.if-w-to.false in
     let h = (table-in a.w a.work.now a.numbers.now (c.requires.0.ready.slot.table, c.requires.1)).room in
     let closed = c.finish_mark-closed in (
-      λ b. mark-written b (omega (arith, x, z)) _ _ _ _ _ _ _ _ _ (area_same a.w.end a.work.now _ (omega (arith, bh, ins)) closed.auto.0) (area_same a.w.end a.numbers.now _ (omega (arith, h, bh)) closed.auto.1.0) closed.auto.1.1.1.0
+      λ b. mark-written b (omega (arith, x, z)) _ _ _ _ _ _ _ _ _ (area_same a.w.end a.work.now _ (omega (arith, bh, ins)) closed.auto.buf) (area_same a.w.end a.numbers.now _ (omega (arith, h, bh)) closed.auto.nums) closed.auto.spans
           c.next_at-next.ensures c.next_byte.ensures closed.ensures.finished c.last_of.ensures refl,
       closed.ensures.behind,
     )

@@ -1,7 +1,6 @@
 use borrow.Author.Rules.{rules}
 use native.Mathlib.Omega.{arith}
 use mathlib.Core.Path.{refl, sym}
-use Prim.Native.Nat.{◌-◌}
 use Rattle.mark_writing.proofs.Inwards.{tail-is, table-in, held-as, one-text-as}
 use Rattle.mark_writing.proofs.slot.is_text_at.Goals as goal
 

@@ -1,6 +1,6 @@
 use borrow.Author.Rules.{rules}
 use mathlib.Core.Path.{sym, ap}
-use Prim.Native.Nat.{ℕ, ◌+◌, ◌-◌}
+use Prim.Native.Nat.{ℕ, ◌+◌}
 use lib.Seq.{get_or-drop}
 use Prim.Native.Nat.{◌*◌, ◌%◌}
 use Rattle.mark_writing.proofs.slot.kind_at.Goals as goal

@@ -1,0 +1,213 @@
+use native.Mathlib.Omega.{arith}
+use mathlib.Core.Path.{refl, sym}
+use Rattle.mark_writing.specs.Laid.{source, table}
+use Rattle.mark_writing.proofs.SlotWriting.{drawing-start, drawn-end, drawn-leave, drawn-mark}
+use Rattle.mark_writing.proofs.SlotAsking.{ones-few, fresh-ready}
+use Rattle.mark_writing.proofs.MarkWriting.{spans-few}
+use Rattle.mark_writing.proofs.Inwards.{behind-none, behind-then, behind-appends, same_source, same-table, area_same, area-cells, source-size, table-in, piece-area, lies-on, ready-as, looked-as, mark-ready-as, mark-written-as, piece_inside, drawn-skip, drawn-piece}
+use Rattle.mark_writing.proofs.MarkEnding.{opened-held, slot-asked, slot-falls, body-asked, mark-done}
+use Rattle.mark_writing.proofs.slot.+write_mark_write_slot.Goals as goal
+
+pub write_mark-is_text_at-requires : goal.write_mark-is_text_at-requires
+write_mark-is_text_at-requires t c =
+    let o = c.put_sign_in-start in
+    let h = c.requires.0.inside in
+    (opened-held c.args.w c.requires c.kind_at-kind.ensures c.delimiter_of-d.ensures o.ensures o.auto.buf o.auto.nums, omega arith)
+
+pub write_mark-write_text-body-requires : goal.write_mark-write_text-body-requires
+write_mark-write_text-body-requires t c =
+    let o = c.put_sign_in-start in
+    (opened-held c.args.w c.requires c.kind_at-kind.ensures c.delimiter_of-d.ensures o.ensures o.auto.buf o.auto.nums, c.is_text_at.ensures c.if-is_text_at.true)
+
+pub write_mark-end_mark-requires : goal.write_mark-end_mark-requires
+write_mark-end_mark-requires t c =
+    let o = c.put_sign_in-start in
+    let b = c.write_text-body in
+    body-asked c.args.w c.requires c.kind_at-kind.ensures c.delimiter_of-d.ensures o.ensures o.auto.buf o.auto.nums b.auto.work b.auto.numbers refl (b.ensures.0 c.args.spans.now) b.ensures.1
+
+pub write_mark-returns-then-is_text_at : goal.write_mark-returns-then-is_text_at
+write_mark-returns-then-is_text_at t c =
+    let o = c.put_sign_in-start in
+    let b = c.write_text-body in
+    mark-done c.args.w c.requires c.kind_at-kind.ensures c.delimiter_of-d.ensures o.ensures o.auto.buf o.auto.nums b.auto.work b.auto.numbers refl (b.ensures.0 c.args.spans.now) b.ensures.1 c.end_mark.ensures
+
+pub write_mark-write_slot-body-requires : goal.write_mark-write_slot-body-requires
+write_mark-write_slot-body-requires t c =
+    let o = c.put_sign_in-start in
+    let f = slot-falls c.args.w c.requires c.kind_at-kind.ensures c.delimiter_of-d.ensures o.ensures o.auto.buf o.auto.nums c.bit_of.ensures in
+    (omega arith, slot-asked c.args.w c.requires c.kind_at-kind.ensures c.delimiter_of-d.ensures o.ensures o.auto.buf o.auto.nums c.bit_of.ensures)
+
+pub write_mark-end_mark-requires-2 : goal.write_mark-end_mark-requires-2
+write_mark-end_mark-requires-2 t c =
+    let o = c.put_sign_in-start in
+    let b = c.write_slot-body in
+    body-asked c.args.w c.requires c.kind_at-kind.ensures c.delimiter_of-d.ensures o.ensures o.auto.buf o.auto.nums b.auto.work b.auto.numbers b.auto.spans b.ensures.0 b.ensures.1
+
+pub write_mark-returns : goal.write_mark-returns
+write_mark-returns t c =
+    let o = c.put_sign_in-start in
+    let b = c.write_slot-body in
+    mark-done c.args.w c.requires c.kind_at-kind.ensures c.delimiter_of-d.ensures o.ensures o.auto.buf o.auto.nums b.auto.work b.auto.numbers b.auto.spans b.ensures.0 b.ensures.1 c.end_mark-2.ensures
+
+pub write_slot-overflow_sub-depth : goal.write_slot-overflow_sub-depth
+write_slot-overflow_sub-depth t c = ones-few c.args.mask c.requires.0.small
+
+pub write_slot-loop-i-init : goal.write_slot-loop-i-init
+write_slot-loop-i-init t c = (drawing-start _ _ _ _ _ _ _ _ _ _ _ c.requires.0, behind-none _ _ _)
+
+pub write_slot-seen_at-item-requires : goal.write_slot-seen_at-item-requires
+write_slot-seen_at-item-requires t c =
+    let a = c.args in
+    let sl = c.requires.0 in
+    let bh = c.requires.1.behind in
+    let l = c.loop-i in
+    let zs = same_source a.w bh l.invariant.1 in
+    let zt = same-table a.w bh l.invariant.1 in
+    ((ready-as (sym zs) (sym zt) (fresh-ready (source a.w a.work.now) (table a.w a.numbers.now) a.w.items l.i a.mask sl.table l.invariant.0.up_to sl.small l.invariant.0.fresh), lies-on c.requires.1 l.auto.work), omega arith)
+
+pub write_slot-returns-then-item-eq0 : goal.write_slot-returns-then-item-eq0
+write_slot-returns-then-item-eq0 t c =
+    let a = c.args in
+    let bh = c.requires.1.behind in
+    let l = c.loop-i in
+    let lk = looked-as (same_source a.w bh l.invariant.1) (same-table a.w bh l.invariant.1) c.seen_at-item.ensures in
+    (drawn-leave (source a.w a.work.now) (table a.w a.numbers.now) a.w.items a.from a.mask _ _ _ _ _ _ _ _ l.i l.before l.guarded l.invariant.0 (omega arith) (lk.leave c.if-item-eq0.true), l.invariant.1)
+
+pub write_slot-in_work-a-requires : goal.write_slot-in_work-a-requires
+write_slot-in_work-a-requires t c =
+    let a = c.args in
+    let ls = c.requires.1 in
+    let l = c.loop-i in
+    let lk = looked-as (same_source a.w ls.behind l.invariant.1) (same-table a.w ls.behind l.invariant.1) c.seen_at-item.ensures in
+    let n = source-size a.w a.work.now ls in
+    let pc = lk.text c.if-item-eq1.true in
+    let q = piece_inside c.requires.0.table c.loop-i-test.true pc in
+    let sm = pc.some in
+    let nr = ls.near in
+    omega arith
+
+pub write_slot-in_work-e-requires : goal.write_slot-in_work-e-requires
+write_slot-in_work-e-requires t c =
+    let a = c.args in
+    let ls = c.requires.1 in
+    let l = c.loop-i in
+    let lk = looked-as (same_source a.w ls.behind l.invariant.1) (same-table a.w ls.behind l.invariant.1) c.seen_at-item.ensures in
+    let n = source-size a.w a.work.now ls in
+    let q = piece_inside c.requires.0.table c.loop-i-test.true (lk.text c.if-item-eq1.true) in
+    let nr = ls.near in
+    omega arith
+
+pub write_slot-write_piece-to-requires : goal.write_slot-write_piece-to-requires
+write_slot-write_piece-to-requires t c =
+    let a = c.args in
+    let ls = c.requires.1 in
+    let bh = ls.behind in
+    let ins = ls.inside in
+    let rm = (table-in a.w a.work.now a.numbers.now (c.requires.0.table, ls)).room in
+    let l = c.loop-i in
+    let lk = looked-as (same_source a.w bh l.invariant.1) (same-table a.w bh l.invariant.1) c.seen_at-item.ensures in
+    let n = source-size a.w a.work.now ls in
+    let pc = lk.text c.if-item-eq1.true in
+    let q = piece_inside c.requires.0.table c.loop-i-test.true pc in
+    let sm = pc.some in
+    let u = c.in_work-a.ensures in
+    let v = c.in_work-e.ensures in
+    let kb = l.auto.work in
+    let kn = l.auto.numbers in
+    ((omega arith, omega arith), (omega arith, omega arith))
+
+pub write_slot-loop-i-preserved-then-item-eq1 : goal.write_slot-loop-i-preserved-then-item-eq1
+write_slot-loop-i-preserved-then-item-eq1 t c =
+    let a = c.args in
+    let ls = c.requires.1 in
+    let bh = ls.behind in
+    let ins = ls.inside in
+    let rm = (table-in a.w a.work.now a.numbers.now (c.requires.0.table, ls)).room in
+    let l = c.loop-i in
+    let zs = same_source a.w bh l.invariant.1 in
+    let zt = same-table a.w bh l.invariant.1 in
+    let lk = looked-as zs zt c.seen_at-item.ensures in
+    let n = source-size a.w a.work.now ls in
+    let pc = lk.text c.if-item-eq1.true in
+    let q = piece_inside c.requires.0.table c.loop-i-test.true pc in
+    let kb = l.auto.work in
+    let kn = l.auto.numbers in
+    let p = c.write_piece-to in
+    let lv = area-cells a.w.end l.work l.numbers p.new.buf p.new.nums (omega arith) (omega arith) p.auto.buf p.auto.nums in
+    let lv₀ = area-cells a.w.end a.work.now a.numbers.now l.work l.numbers (omega arith) (omega arith) kb kn in (
+      drawn-piece (source a.w a.work.now) (table a.w a.numbers.now) a.w.items a.from a.mask _ _ _ _ _ _ _ _ l.i l.before l.guarded l.invariant.0 c.loop-i-test.true c.requires.0.table pc lv lv₀
+          (piece-area a.w _ _ _ _ _ _ _ _ zs zt c.in_work-a.ensures c.in_work-e.ensures (omega arith) p.ensures),
+      behind-then l.invariant.1 (behind-appends p.ensures),
+    )
+
+pub write_slot-loop-i-preserved-then-item-eq2 : goal.write_slot-loop-i-preserved-then-item-eq2
+write_slot-loop-i-preserved-then-item-eq2 t c =
+    let a = c.args in
+    let bh = c.requires.1.behind in
+    let l = c.loop-i in
+    let lk = looked-as (same_source a.w bh l.invariant.1) (same-table a.w bh l.invariant.1) c.seen_at-item.ensures in
+    (drawn-skip (source a.w a.work.now) (table a.w a.numbers.now) a.w.items a.from a.mask _ _ _ _ _ _ _ _ l.i l.before l.guarded l.invariant.0 c.loop-i-test.true c.requires.0.table _ (lk.skip c.if-item-eq2.true), l.invariant.1)
+
+pub write_slot-write_mark-mark-requires : goal.write_slot-write_mark-mark-requires
+write_slot-write_mark-mark-requires t c =
+    let a = c.args in
+    let sl = c.requires.0 in
+    let ls = c.requires.1 in
+    let bh = ls.behind in
+    let ins = ls.inside in
+    let rm = (table-in a.w a.work.now a.numbers.now (sl.table, ls)).room in
+    let l = c.loop-i in
+    let zs = same_source a.w bh l.invariant.1 in
+    let zt = same-table a.w bh l.invariant.1 in
+    let lk = looked-as zs zt c.seen_at-item.ensures in
+    let n₁ = c.if-item-eq0.false in
+    let n₂ = c.if-item-eq1.false in
+    let n₃ = c.if-item-eq2.false in
+    let mk = lk.mark (omega arith) in
+    let x = area_same a.w.end a.work.now l.work (omega arith) l.auto.work in
+    let y = area_same a.w.end a.numbers.now l.numbers (omega arith) l.auto.numbers in
+    let sh = sl.short in
+    let wd = sl.wide in (
+      omega arith,
+      (
+        mark-ready-as (sym zs) (sym zt) (record {
+          slot = record { table = sl.table; up_to = l.invariant.0.up_to; small = sl.small; fresh = l.invariant.0.fresh; short = omega arith; wide = omega arith; few = l.invariant.0.few };
+          inside = c.loop-i-test.true;
+          mark = mk.0;
+          some = mk.1;
+          small = l.invariant.0.small;
+        }),
+        lies-on ls l.auto.work,
+      ),
+    )
+
+pub write_slot-loop-i-preserved : goal.write_slot-loop-i-preserved
+write_slot-loop-i-preserved t c =
+    let a = c.args in
+    let ls = c.requires.1 in
+    let bh = ls.behind in
+    let ins = ls.inside in
+    let rm = (table-in a.w a.work.now a.numbers.now (c.requires.0.table, ls)).room in
+    let l = c.loop-i in
+    let zs = same_source a.w bh l.invariant.1 in
+    let zt = same-table a.w bh l.invariant.1 in
+    let lk = looked-as zs zt c.seen_at-item.ensures in
+    let n₁ = c.if-item-eq0.false in
+    let n₂ = c.if-item-eq1.false in
+    let n₃ = c.if-item-eq2.false in
+    let mk = lk.mark (omega arith) in
+    let kb = l.auto.work in
+    let kn = l.auto.numbers in
+    let d = c.write_mark-mark in
+    let lv = area-cells a.w.end l.work l.numbers d.new.work d.new.numbers (omega arith) (omega arith) d.auto.work d.auto.numbers in
+    let lv₀ = area-cells a.w.end a.work.now a.numbers.now l.work l.numbers (omega arith) (omega arith) kb kn in (
+      drawn-mark (source a.w a.work.now) (table a.w a.numbers.now) a.w.items a.from a.mask _ _ _ _ _ _ _ _ l.i l.before l.guarded l.invariant.0 c.loop-i-test.true mk.0 _ _ _ _ _ _ _ lv lv₀ d.auto.spans mk.1
+          (spans-few _ _) (mark-written-as zs zt d.ensures.0),
+      behind-then l.invariant.1 d.ensures.1,
+    )
+
+pub write_slot-returns : goal.write_slot-returns
+write_slot-returns t c =
+    let a = c.args in
+    let l = c.loop-i in
+    (drawn-end (source a.w a.work.now) (table a.w a.numbers.now) a.w.items a.from a.mask _ _ _ _ _ _ _ _ l.i l.before l.guarded l.invariant.0 (omega arith), l.invariant.1)
