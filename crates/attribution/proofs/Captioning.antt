@@ -11,7 +11,6 @@ use borrow.Author.Tests.{lt-ltb}
 use Rattle.text.specs.Ascii.{inside, ascii, is_empty}
 use Rattle.text.specs.Blanks.{computes as blanks_compute}
 use Rattle.text.specs.Cells.{Cell, cell, sign, written, cells_from}
-use Rattle.text.specs.Writes.{Appends}
 use Rattle.day.specs.Day.{iso, is_seconds, day_of}
 use Rattle.attribution_parts.specs.declared.Kind.{Kind}
 use Rattle.attribution_parts.specs.declared.Kind.TheVariants.{Name, Date, Time}

@@ -23,15 +23,13 @@ use Rattle.text.proofs.Clearing.{laid-cleared}
 use Rattle.attribution_parts.specs.Attribution.{caption, losses}
 use Rattle.attribution_reading.specs.Places.{bytes}
 use Rattle.attribution_losses.specs.Captions.{name_texts}
-use Rattle.attribution_losses.specs.Lists.{Puts, records_of, loss_words, Lists}
+use Rattle.attribution_losses.specs.Lists.{Puts, loss_words, Lists}
 use Rattle.attribution_losses.proofs.Losing.{listed-counts}
 use Rattle.attribution.specs.declared.Attributed.{Attributed}
 use Rattle.attribution.specs.declared.Attributed.TheVariants.{Done, Refused}
 use Rattle.attribution.specs.declared.caption.Words.{Words}
 use Rattle.attribution.specs.Spoken.{said, Spoken}
-use Rattle.attribution.specs.Calls.{formatted, answer_by, answered, losses_by, Holding, Called, Noted, Captioned, Lost, Formatted, Numbered}
-use Rattle.losses.specs.declared.Loss.{Loss}
-use Rattle.losses.specs.Records.{records_lent}
+use Rattle.attribution.specs.Calls.{formatted, answer_by, answered, Holding, Noted, Captioned, Lost, Formatted, Numbered}
 use Rattle.attribution.proofs.TextLaws.{written-bytes}
 use Rattle.attribution.proofs.Fitting.{texts-within-caption}
 use Rattle.attribution.proofs.Speaking.{joined-there, spoken-there}
@@ -187,8 +185,3 @@ module _ (s : List ℕ) (m k l b w n : ℕ) (c : Checked) (a : Attributed) {out 
   pub numbered-fine : c ≡ C.Fine → Formatted s m k l b a out origins numbers bytes → Numbered s m k l b w n a out origins numbers bytes
   unfolding answered
   numbered-fine e f = record { answer = f.answer ∙ ap (λ (x : Checked). answer_by x s m l b) (sym e ∙ d); holds = f.holds; noted = f.noted }
-
--- the records are filled from the numbers
-pub called : (s : List ℕ) (m k l b w n : ℕ) (a : Attributed) (out origins numbers bytes : List ℕ) (records : List Loss) → Numbered s m k l b w n a out origins numbers bytes
-    → records ≡ records_lent l (take (5 * losses_by a) numbers) → Called s m k l b w n a out origins records bytes
-called s m k l b w n a out origins numbers bytes records c e = record { answer = c.answer; holds = c.holds; listed = e ∙ ap (records_lent l) c.noted.there }

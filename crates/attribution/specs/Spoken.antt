@@ -3,7 +3,7 @@
 --   Spoken s at end w     the words w stand in s, outside of the area from `at` up to `end`
 --   NameAt s w .. i j     the name stands in s from i up to j, in one of the two places of w
 -- Assumes nothing.
-use Rattle.std.specs.Prelude.{◌≡◌, ℕ, ◌-◌, ◌≤◌, List, [], length}
+use Rattle.std.specs.Prelude.{◌≡◌, ℕ, ◌≤◌, List, [], length}
 use Rattle.text.specs.Ascii.{ascii}
 use Rattle.text.specs.Writes.{Apart, cut}
 use Rattle.attribution_parts.specs.Parts.{Part}

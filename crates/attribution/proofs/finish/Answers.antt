@@ -1,4 +1,3 @@
-use Prim.Native.Nat.{◌-◌}
 use Rattle.attribution.proofs.Formatting.{counted, all_listed}
 use Rattle.attribution.proofs.finish.Goals as goal
 

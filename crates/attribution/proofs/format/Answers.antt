@@ -1,5 +1,4 @@
 use native.Mathlib.Omega.{arith}
-use Prim.Native.Nat.{◌-◌}
 use Rattle.attribution.proofs.Formatting.{too_many, bytes-short, caption-from, no-space, done}
 use Rattle.attribution.proofs.format.Goals as goal
 

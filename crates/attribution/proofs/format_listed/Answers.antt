@@ -1,5 +1,5 @@
 use native.Mathlib.Omega.{arith}
-use mathlib.Core.Path.{sym, ◌∙◌}
+use mathlib.Core.Path.{sym}
 use Rattle.lending.proofs.Sizes.{enough}
 use Rattle.attribution.proofs.Formatting.{numbered-refused, numbered-fine}
 use Rattle.attribution.proofs.format_listed.Goals as goal

@@ -1,5 +1,4 @@
 use mathlib.Core.Path.{refl}
-use Prim.Native.Nat.{◌-◌}
 use lib.ListN.{length}
 use Rattle.attribution.proofs.Formatting.{all-zero}
 use Rattle.attribution.proofs.refuse.Goals as goal

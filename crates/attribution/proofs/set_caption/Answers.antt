@@ -1,6 +1,5 @@
 use native.Mathlib.Omega.{arith}
 use mathlib.Core.Path.{refl}
-use Prim.Native.Nat.{◌-◌}
 use Rattle.attribution.proofs.Formatting.{words-spoken, not-fitting, caption-stands}
 use Rattle.attribution.proofs.set_caption.Goals as goal
 

@@ -1,4 +1,3 @@
-use Prim.Native.Nat.{◌-◌}
 use Rattle.attribution.proofs.caption.has_more.Goals as goal
 
 pub returns : goal.returns
