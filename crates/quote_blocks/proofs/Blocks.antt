@@ -3,18 +3,16 @@ use mathlib.Core.Path.{◌≡◌, refl, sym, ap, ◌∙◌}
 use Prim.Native.Nat.{ℕ, ◌+◌, ◌≤◌, ◌<◌}
 use native.Mathlib.Omega.{arith}
 use native.Mathlib.Decide.{dec_le}
-use mathlib.Core.Bool.{Bool, true, false, ◌||◌, true≢false}
+use mathlib.Core.Bool.{Bool, true, false}
 use mathlib.Core.List.{List, [], ◌∷◌, ◌++◌, map, append-nil}
-use lib.Dec.{ltb}
 use lib.ListN.{length, take, length-append}
-use borrow.Author.Tests.{ltb-true, ltb-false}
 use lib.Seq.{length-take-le}
 use Rattle.text.specs.Ascii.{ascii, computes as ascii_computes}
 use Rattle.text.specs.Blanks.{computes as blanks_compute}
-use Rattle.text.specs.Cells.{Cell, cell, cells, part, written, feed, sign, cells_from, computes as cells_compute}
+use Rattle.text.specs.Cells.{Cell, cell, part, written, feed, sign, cells_from, computes as cells_compute}
 use Rattle.text.specs.Lines.{trim_start, trim_end, trim, all_blank, lines, followed, joined}
 use Rattle.text.specs.Writes.{Holds, Appends}
-use Rattle.text.proofs.Writing.{appends-then, part_end, cells-le, cells-short, cells-short₂}
+use Rattle.text.proofs.Writing.{appends-then, part_end}
 use Rattle.quote_blocks.specs.Quotes.{quoted_line, quoted_lines, caption_line, quote_block}
 
 -- ---- a line

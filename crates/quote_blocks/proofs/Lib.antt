@@ -4,3 +4,4 @@ pub mod Bracketing
 pub mod Reading
 pub mod Blocks
 pub mod Kept
+mod Examples

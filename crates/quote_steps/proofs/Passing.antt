@@ -13,7 +13,7 @@ use lib.Seq.{length-take-le, get_or-take, take-take, take_at, drop_at, get_or-se
 use Rattle.text.specs.Bounds.{deep_most}
 use Rattle.text.specs.Cells.{Cell, cells, bytes, part, feed}
 use Rattle.text.specs.Writes.{Holds, Appends, AppendsIn}
-use Rattle.text.proofs.Writing.{holds_fits, cells-le, cells-short, cells_at, part-cons}
+use Rattle.text.proofs.Writing.{holds_fits, cells-le, cells_at, part-cons}
 use Rattle.text.proofs.Areas.{area-length}
 use Rattle.text.proofs.Clearing.{cells-bytes}
 use Rattle.text.proofs.Sources.{cells-taken}

@@ -1,7 +1,6 @@
 use borrow.Author.Rules.{rules}
 use native.Mathlib.Omega.{arith}
 use mathlib.Core.Path.{refl}
-use Prim.Native.Nat.{◌-◌}
 use Rattle.text.proofs.Areas.{WritingIn, start_in, more_in, done_in, appends_in-then}
 use Rattle.quote_blocks.proofs.Blocks.{more-end}
 use Rattle.quote_blocks.proofs.Kept.{kept-lines, kept_line}

@@ -1,5 +1,4 @@
 use native.Mathlib.Omega.{arith}
-use Prim.Native.Nat.{◌-◌}
 use Rattle.quote_steps.proofs.Joining.{opener-inside, attribution-missing, attribution-there}
 use Rattle.quote_steps.proofs.close.attribution_of.Goals as goal
 

@@ -1,6 +1,6 @@
 use native.Mathlib.Omega.{arith}
 use mathlib.Core.Path.{sym}
-use Prim.Native.Nat.{◌-◌, ◌≤◌}
+use Prim.Native.Nat.{◌≤◌}
 use lib.ListN.{length}
 use Rattle.quote_steps.proofs.Joining.{joined_is, block-joined, area-unjoined}
 use Rattle.quote_steps.proofs.Within.{built-behind, built-full}

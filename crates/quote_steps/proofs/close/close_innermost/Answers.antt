@@ -1,6 +1,6 @@
 use borrow.Author.Rules.{rules}
 use native.Mathlib.Omega.{arith}
-use Prim.Native.Nat.{◌-◌, ◌≤◌}
+use Prim.Native.Nat.{◌≤◌}
 use lib.ListN.{length}
 use Rattle.quote_steps.proofs.Passing.{closes-last, closing-keeps}
 use Rattle.attribution_parts.specs.Attribution.{caption}

@@ -1,6 +1,5 @@
 use borrow.Author.Rules.{rules}
 use native.Mathlib.Omega.{arith}
-use Prim.Native.Nat.{◌-◌}
 use Rattle.quote_steps.proofs.Within.{closes-within, closes-within-full}
 use Rattle.quote_blocks.specs.Quotes.{quote_block}
 use Rattle.quote_steps.proofs.close.close_quote.Goals as goal

@@ -1,5 +1,4 @@
 use native.Mathlib.Omega.{arith}
-use Prim.Native.Nat.{◌-◌}
 use Rattle.quote_steps.proofs.close.start_of.Goals as goal
 
 pub overflow_cast-s : goal.overflow_cast-s

@@ -1,5 +1,4 @@
 use native.Mathlib.Omega.{arith}
-use Prim.Native.Nat.{◌-◌}
 use Rattle.quote_steps.proofs.close.tag_of.Goals as goal
 
 pub overflow_cast-t : goal.overflow_cast-t

@@ -1,7 +1,6 @@
 use borrow.Author.Rules.{rules}
 use native.Mathlib.Omega.{arith}
 use mathlib.Core.Path.{refl}
-use Prim.Native.Nat.{◌-◌}
 use Rattle.quote_steps.proofs.Passing.{all_start, all_end, all-on, all-full}
 use Rattle.quote_steps.proofs.pass.close_open.Goals as goal
 

@@ -1,5 +1,5 @@
 use mathlib.Core.Path.{◌≡◌}
-use Prim.Native.Nat.{◌-◌, ◌≤◌}
+use Prim.Native.Nat.{◌≤◌}
 use lib.ListN.{length}
 use Rattle.quote_steps.proofs.Passing.{ClosingAll}
 use Rattle.quote_steps.proofs.pass.close_open.Given as goal

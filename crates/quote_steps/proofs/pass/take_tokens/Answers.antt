@@ -1,11 +1,10 @@
 use borrow.Author.Rules.{rules}
 use native.Mathlib.Omega.{arith}
 use mathlib.Core.Path.{refl, sym, ◌∙◌}
-use Prim.Native.Nat.{◌-◌, ◌≤◌}
+use Prim.Native.Nat.{◌≤◌}
 use lib.ListN.{length}
 use Rattle.quote_steps.proofs.Passing.{run-start, run_room, run_end, run_on, run-full}
 use lib.Seq.{length-take-le}
-use mathlib.Core.Bool.{false}
 use Rattle.quote_steps.proofs.pass.take_tokens.Goals as goal
 
 pub slice_bounds-next_bracket-end : goal.slice_bounds-next_bracket-end
