@@ -9,7 +9,6 @@ use lib.Count.{ones}
 use lib.Dec.{eqb}
 use borrow.Author.Tests.{eqb-false}
 use lib.ListN.{length, get_or}
-use Rattle.text.specs.Bounds.{text_most}
 use Rattle.mark_tags.specs.Marks.{mark, Next, nothing, a_byte, a-mark, next_byte, marked}
 use Rattle.mark_tags.specs.Flat.{within, beyond, slot_at, Fresh, kind_numbered, kinds_of, bit_of, Held, Ready, NextIs, next_number}
 use Rattle.mark_pieces.specs.Spans.{marks_in, Slot, MarkReady}
@@ -36,9 +35,6 @@ module _ {src ns : List ℕ} {k i mask before : ℕ} {out org : List ℕ} {c : �
   marks-mark : marks_in (within (slot_at src ns k i)) ≡ suc (marks_in (within (slot_at src ns k (i + 1))) + marks_in (within (beyond (slot_at src ns k (i + 1)))))
   unfolding marks_in
   marks-mark = ap marks_in marking
-
-  pub mark-few : c + 2 ≤ text_most
-  mark-few = let y = marks-mark in let r = m.slot.few in omega arith
 
   fit : Fits mask (get_or ns (2 * length src + 2 + i) 0 % 4)
   fit = fits mask (get_or ns (2 * length src + 2 + i) 0 % 4) m.slot.small (omega arith)

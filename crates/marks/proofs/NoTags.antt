@@ -1,6 +1,6 @@
 -- A text without `[`: the pass leaves it as it is. Assumes nothing.
 use mathlib.Core.Path.{◌≡◌, refl, sym, ap, subst, ◌∙◌}
-use mathlib.Core.Bool.{Bool, true, false, cond}
+use mathlib.Core.Bool.{Bool, true, false, not, cond, ◌&&◌}
 use mathlib.Core.List.{List, [], ◌∷◌, append-nil}
 use Prim.Native.Nat.{ℕ, suc, ◌+◌, ◌≤◌}
 use native.Mathlib.Omega.{arith}
@@ -33,7 +33,7 @@ escape-none : (even : Bool) (p : List Cell) → escape_last (touching false) eve
 unfolding escape_last
 escape-none even [] = refl
 escape-none even (c ∷ []) = refl
-escape-none even (c ∷ d ∷ p) = ap (λ (l : List Cell). c ∷ l) (escape-none _ (d ∷ p))
+escape-none even (c ∷ d ∷ p) = ap (λ (l : List Cell). c ∷ l) (escape-none (not (eqb c.byte 92 && even)) (d ∷ p))
 
 marks-last : (x : List Cell) → scan 0 x ≡ last x → (marks x).cells ≡ x
 unfolding marks items parse whole merge write next text_step piece_text

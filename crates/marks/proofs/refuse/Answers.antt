@@ -1,6 +1,5 @@
 use native.Mathlib.Omega.{arith}
 use mathlib.Core.Path.{refl}
-use Prim.Native.Nat.{◌-◌}
 use Rattle.marks.proofs.Conversion.{front-left}
 use Rattle.mark_tags.specs.Marks.{span_numbers}
 use Rattle.marks.proofs.refuse.Goals as goal

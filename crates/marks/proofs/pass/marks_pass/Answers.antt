@@ -1,4 +1,3 @@
-use Prim.Native.Nat.{◌-◌}
 use Rattle.marks.proofs.Passing.{pass-held}
 use Rattle.marks.proofs.pass.marks_pass.Goals as goal
 
