@@ -5,10 +5,10 @@ use Rattle.carve.proofs.Reporting.{reported, countable}
 use Rattle.carve.proofs.report_quotes.Goals as goal
 
 pub set_counts-requires : goal.set_counts-requires
-set_counts-requires c = let z = countable Quotes.counts_of_answer c.args.answer c.answer-1.given.1 c.requires in (z.0, (z.1.0, z.1.1.0))
+set_counts-requires c = let z = countable Quotes.counts_of_answer c.args.answer c.in-Done.is c.requires in (z.0, (z.1.0, z.1.1.0))
 
 pub returns-in-Done : goal.returns-in-Done
-returns-in-Done c = reported Quotes.number_of_answer Quotes.counts_of_answer c.args.answer c.answer-1.given.1 refl c.set_counts.ensures
+returns-in-Done c = reported Quotes.number_of_answer Quotes.counts_of_answer c.args.answer c.in-Done.is refl c.set_counts.ensures
 
 pub returns-in-Refused : goal.returns-in-Refused
-returns-in-Refused c = reported Quotes.number_of_answer Quotes.counts_of_answer c.args.answer c.answer-in-Refused-1.given.1 c.number_of.ensures c.set_counts-in-Refused.ensures
+returns-in-Refused c = reported Quotes.number_of_answer Quotes.counts_of_answer c.args.answer c.in-Refused.is c.number_of.ensures c.set_counts-in-Refused.ensures

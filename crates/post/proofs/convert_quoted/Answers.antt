@@ -42,16 +42,16 @@ write_noted-requires c = let a = c.args in
     let hn : a.k ≤ length a.numbers.now = omega (arith, M.near, M.room) in
     let x = take a.k (cells a.work.now a.numbers.now) in
     let e = cells-bytes a.k a.work.now a.numbers.now hb hn in
-    let f = sym c.refusal_of-refused.ensures ∙ c.enum_told-1.given.1 in
+    let f = sym c.refusal_of-refused.ensures ∙ c.in-Fine.is in
     let w = within p.result.deep a.lent _ p.result.losses p.result.bytes f in
     let n = listed-counts a.post.now _ _ _ _ _ _ _ p.ensures.0.0 x e in
-    let kept = cells-kept a.k (length a.out.now) c.work_size-first.result a.work.now a.numbers.now p.new.1.1.1.0 p.new.1.1.1.1.0 M.near.0 (omega (arith, s, M.near)) (omega (arith, s, M.room.1.1)) p.ensures.1 in (
+    let kept = cells-kept a.k (length a.out.now) c.work_size-first.result a.work.now a.numbers.now p.new.work p.new.numbers M.near.0 (omega (arith, s, M.near)) (omega (arith, s, M.room.1.1)) p.ensures.1 in (
       record {
         near = M.near.0;
         lendable = (M.room.0.1, M.plainly);
-        areas = (omega (arith, M.near, M.room.1.0, p.auto.1.1.1.0), omega (arith, s, M.near));
-        room = omega (arith, s, M.near, M.room.1.1, c.numbers-1.given);
-        small = omega (arith, M.small, c.numbers-1.given);
+        areas = (omega (arith, M.near, M.room.1.0, p.auto.work), omega (arith, s, M.near));
+        room = omega (arith, s, M.near, M.room.1.1, c.list_lost-c.auto.numbers);
+        small = omega (arith, M.small, c.list_lost-c.auto.numbers);
         shallow = rw kept (p.ensures.0.1 x e ∙ w.0);
         lost = rw kept n.0;
       },
@@ -69,9 +69,9 @@ returns-in-Refused c = let a = c.args in
     let x = take a.k (cells a.work.now a.numbers.now) in
     let e = cells-bytes a.k a.work.now a.numbers.now hb hn in
     let n = listed-counts a.post.now _ _ _ _ _ _ _ p.ensures.0.0 x e in
-    let lb = p.auto.1.1.1.1.1.0 in
+    let lb = p.auto.loss_bytes in
     let r = c.refuse.ensures in
-    (ends-refused _ (marked_by x _ _ _ _ _ _ _ lb (sym (p.ensures.0.1 x e)) n.0 n.1 ∙ answer-refused _ _ _ (sym c.refusal_of-refused.ensures ∙ c.refused-1.given.1)) r.0 (rw lb at r.1), refused-noted _ _ _ _ _ r.0)
+    (ends-refused _ (marked_by x _ _ _ _ _ _ _ lb (sym (p.ensures.0.1 x e)) n.0 n.1 ∙ answer-refused _ _ _ (sym c.refusal_of-refused.ensures ∙ c.in-Refused.is)) r.0 (rw lb at r.1), refused-noted _ _ _ _ _ r.0)
 
 pub returns-in-Fine : goal.returns-in-Fine
 returns-in-Fine c = let a = c.args in
@@ -84,19 +84,19 @@ returns-in-Fine c = let a = c.args in
     let x = take a.k (cells a.work.now a.numbers.now) in
     let e = cells-bytes a.k a.work.now a.numbers.now hb hn in
     let n = listed-counts a.post.now _ _ _ _ _ _ _ p.ensures.0.0 x e in
-    let lb = p.auto.1.1.1.1.1.0 in
-    let f = sym c.refusal_of-refused.ensures ∙ c.enum_told-1.given.1 in
+    let lb = p.auto.loss_bytes in
+    let f = sym c.refusal_of-refused.ensures ∙ c.in-Fine.is in
     let w = within p.result.deep a.lent _ p.result.losses p.result.bytes f in
     let there = spelled-there a.post.now _ _ _ _ _ _ _ p.ensures.0.0 x e (omega (arith, w.1.1, lb)) in
     let few = few-losses a.k a.work.now hb p.ensures.0.0.few in
     let first = c.work_size-first.result in
     let hf : first ≤ length a.numbers.now = omega (arith, s, M.room.1.1) in
-    let kept = cells-kept a.k (length a.out.now) first a.work.now a.numbers.now p.new.1.1.1.0 p.new.1.1.1.1.0 M.near.0 (omega (arith, s, M.near)) hf p.ensures.1 in
+    let kept = cells-kept a.k (length a.out.now) first a.work.now a.numbers.now p.new.work p.new.numbers M.near.0 (omega (arith, s, M.near)) hf p.ensures.1 in
     let g = rw lb at (rw kept at c.write_noted.ensures) in
-    let b = back_is a.numbers.now p.new.1.1.1.1.0 first hf in
+    let b = back_is a.numbers.now p.new.numbers first hf in
     let z = back_long a.numbers.now first in
     let i = length-take-le (5 * length a.post.now) (take (length a.numbers.now - first) (drop first a.numbers.now)) (omega (arith, z, s, M.room.1.1)) in (
       ends_as (ends-spelled _ x _ _ there g.0) (marked_by x _ _ _ _ _ _ _ lb (sym (p.ensures.0.1 x e)) n.0 n.1 ∙ answer-fine _ _ f),
-      quoting-noted _ _ _ _ w.1.0 (g.1 ∙ ap (take (5 * p.result.losses)) b ∙ sym (take-take (5 * p.result.losses) (5 * length a.post.now) p.new.1.1.1.1.0 (omega (arith, few, M.near))) ∙ records-there a.post.now _ _ _ _ _ _ _ p.ensures.0.0 x e (omega (arith, few, i, M.near)))
-          (omega (arith, few, s, M.near, M.room.1.1, c.numbers-1.given, c.write_noted.auto.loss_bytes)) x _ _ _ g.0.answer,
+      quoting-noted _ _ _ _ w.1.0 (g.1 ∙ ap (take (5 * p.result.losses)) b ∙ sym (take-take (5 * p.result.losses) (5 * length a.post.now) p.new.numbers (omega (arith, few, M.near))) ∙ records-there a.post.now _ _ _ _ _ _ _ p.ensures.0.0 x e (omega (arith, few, i, M.near)))
+          (omega (arith, few, s, M.near, M.room.1.1, c.list_lost-c.auto.numbers, c.write_noted.auto.numbers)) x _ _ _ g.0.answer,
     )

@@ -17,7 +17,7 @@ slice_bounds-list_losses-end c = let x = c.args in
     let q = c.read_lines-own in
     let hw : x.m ≤ length x.work.now = omega (arith, p.0.1.0) in
     let hn : 5 * length x.post.now ≤ length x.numbers.now = omega (arith, p.0.1.1) in
-    let rest = q.new.1.0 ++ drop (length x.work.now - x.m) (drop x.m x.work.now) in
+    let rest = q.new.work ++ drop (length x.work.now - x.m) (drop x.m x.work.now) in
     let f = front_long x.work.now rest x.m hw in
     sym (length-take-le x.k (take x.m x.work.now ++ rest) (omega (arith, p.1.0, f)))
 
@@ -27,10 +27,10 @@ list_losses-requires c = let x = c.args in
     let q = c.read_lines-own in
     let hw : x.m ≤ length x.work.now = omega (arith, p.0.1.0) in
     let hn : 5 * length x.post.now ≤ length x.numbers.now = omega (arith, p.0.1.1) in
-    let rest = q.new.1.0 ++ drop (length x.work.now - x.m) (drop x.m x.work.now) in
+    let rest = q.new.work ++ drop (length x.work.now - x.m) (drop x.m x.work.now) in
     let f = front_long x.work.now rest x.m hw in
     let l = length-take-le x.k (take x.m x.work.now ++ rest) (omega (arith, p.1.0, f)) in
-    (omega (arith, l, p.1), (rw (own_is x.work.now q.new.1.0 x.m q.result.size hw) (same-table _ _ _ _ (back_is x.numbers.now q.new.1.1.0 (5 * length x.post.now) hn) q.ensures.table), front_long x.numbers.now _ (5 * length x.post.now) hn))
+    (omega (arith, l, p.1), (rw (own_is x.work.now q.new.work x.m q.result.size hw) (same-table _ _ _ _ (back_is x.numbers.now q.new.numbers (5 * length x.post.now) hn) q.ensures.table), front_long x.numbers.now _ (5 * length x.post.now) hn))
 
 pub returns : goal.returns
 returns c = let x = c.args in
@@ -38,4 +38,4 @@ returns c = let x = c.args in
     let q = c.read_lines-own in
     let hw : x.m ≤ length x.work.now = omega (arith, p.0.1.0) in
     let hn : 5 * length x.post.now ≤ length x.numbers.now = omega (arith, p.0.1.1) in
-    (lost_as (front-is x.work.now q.new.1.0 x.m hw x.k p.1.0) (own_is x.work.now q.new.1.0 x.m q.result.size hw ∙ q.ensures.masked) (front_kept x.numbers.now _ (5 * length x.post.now) hn) c.list_losses.ensures, front-is x.work.now q.new.1.0 x.m hw x.m (omega arith))
+    (lost_as (front-is x.work.now q.new.work x.m hw x.k p.1.0) (own_is x.work.now q.new.work x.m q.result.size hw ∙ q.ensures.masked) (front_kept x.numbers.now _ (5 * length x.post.now) hn) c.list_losses.ensures, front-is x.work.now q.new.work x.m hw x.m (omega arith))

@@ -10,10 +10,10 @@ returns-then-post-gt-POST_MOST c = too_long _ _ _ _ _ _ (lt-ltb 1024 _ c.if-post
 pub list_done-requires : goal.list_done-requires
 list_done-requires c = let p = c.convert_kept-kept in
     let q = c.requires in
-    (omega (arith, p.auto.1.0, p.auto.1.1.0, q.0), (omega (arith, p.auto.1.0, q.1), p.ensures.1))
+    (omega (arith, p.auto.out, p.auto.origins, q.0), (omega (arith, p.auto.out, q.1), p.ensures.1))
 
 pub returns-in-Refused : goal.returns-in-Refused
-returns-in-Refused c = refused-listed _ _ _ _ _ _ _ _ _ _ _ _ _ c.if-post-gt-POST_MOST.false c.answer-1.given.1 c.number_of.ensures c.convert_kept-kept.ensures.0 c.put_number-in-Refused.ensures
+returns-in-Refused c = refused-listed _ _ _ _ _ _ _ _ _ _ _ _ _ c.if-post-gt-POST_MOST.false c.in-Refused.is c.number_of.ensures c.convert_kept-kept.ensures.0 c.put_number-in-Refused.ensures
 
 pub returns-in-Done : goal.returns-in-Done
-returns-in-Done c = all_listed _ _ _ _ _ _ _ _ _ _ _ _ _ _ c.if-post-gt-POST_MOST.false c.answer-in-Done-1.given.1 c.convert_kept-kept.ensures.0 c.list_done.ensures
+returns-in-Done c = all_listed _ _ _ _ _ _ _ _ _ _ _ _ _ _ c.if-post-gt-POST_MOST.false c.in-Done.is c.convert_kept-kept.ensures.0 c.list_done.ensures

@@ -21,9 +21,9 @@ lay_text-requires c = let x = c.args in
     let L = p.0 in
     let k : x.e.0 + length x.out.now - x.e.0 ≡ length x.out.now = add-sub_cancel_left x.e.0 (length x.out.now) in
     let q = c.list_pass-passed in
-    let d = rw k at (rw c.passed-1.given.1 at q.ensures.0) in
+    let d = rw k at (rw c.in-Done.is at q.ensures.0) in
     let w = written-within _ _ _ d.1 in
-    ((w.0, (omega (arith, w.1, L.areas.0, q.auto.1.1.1.0), omega (arith, w.1, L.areas.1, L.room, q.auto.1.1.1.1.0))), (w.1, omega (arith, w.1, L.lendable.1)))
+    ((w.0, (omega (arith, w.1, L.areas.0, q.auto.work), omega (arith, w.1, L.areas.1, L.room, q.auto.numbers))), (w.1, omega (arith, w.1, L.lendable.1)))
 
 pub returns-in-TooDeep : goal.returns-in-TooDeep
 returns-in-TooDeep c = let x = c.args in
@@ -31,7 +31,7 @@ returns-in-TooDeep c = let x = c.args in
     let L = p.0 in
     let k : x.e.0 + length x.out.now - x.e.0 ≡ length x.out.now = add-sub_cancel_left x.e.0 (length x.out.now) in
     let q = c.list_pass-passed in
-    let d = rw c.enum_told-1.given.1 at q.ensures.0 in
+    let d = rw c.in-TooDeep.is at q.ensures.0 in
     let r = c.refuse.ensures in
     (ends-refused _ (listing-deep _ _ _ _ d) r.0 r.1, stays-in _ x.table.0 _ _ _ _ (omega (arith, k)) (omega arith) q.ensures.1.numbers-behind)
 
@@ -41,7 +41,7 @@ returns-in-Full c = let x = c.args in
     let L = p.0 in
     let k : x.e.0 + length x.out.now - x.e.0 ≡ length x.out.now = add-sub_cancel_left x.e.0 (length x.out.now) in
     let q = c.list_pass-passed in
-    let d = rw k at (rw c.enum_told-in-Full-1.given.1 at q.ensures.0) in
+    let d = rw k at (rw c.in-Full.is at q.ensures.0) in
     let r = c.refuse-in-Full.ensures in
     (ends-refused _ (listing_full _ _ _ _ d.0 d.1) r.0 r.1, stays-in _ x.table.0 _ _ _ _ (omega (arith, k)) (omega arith) q.ensures.1.numbers-behind)
 
@@ -51,6 +51,6 @@ returns-in-Done c = let x = c.args in
     let L = p.0 in
     let k : x.e.0 + length x.out.now - x.e.0 ≡ length x.out.now = add-sub_cancel_left x.e.0 (length x.out.now) in
     let q = c.list_pass-passed in
-    let d = rw k at (rw c.passed-1.given.1 at q.ensures.0) in
+    let d = rw k at (rw c.in-Done.is at q.ensures.0) in
     let r = c.lay_text.ensures in
     (written-done _ _ _ _ _ _ _ _ _ d r.0 r.1.0 (r.1.1 ∙ cleared-taken x.losses.bytes x.loss-bytes.now _ p.1 refl), stays-in _ x.table.0 _ _ _ _ (omega (arith, k)) (omega arith) q.ensures.1.numbers-behind)

@@ -8,7 +8,7 @@ pub overflow_mul-losses : goal.overflow_mul-losses
 overflow_mul-losses c = let Q = c.requires.0 in let h = quotable-room Q in omega (arith, h, Q.room, Q.small)
 
 pub move_front-requires : goal.move_front-requires
-move_front-requires c = let Q = c.requires.0 in let h = quotable-room Q in omega (arith, h, Q.room, c.write_quotes-answer.auto.loss_bytes)
+move_front-requires c = let Q = c.requires.0 in let h = quotable-room Q in omega (arith, h, Q.room, c.write_quotes-answer.auto.numbers)
 
 pub returns : goal.returns
 returns c = let x = c.args in

@@ -44,16 +44,16 @@ write_lists-requires c = let x = c.args in
     let m : ℕ = length x.out.now in
     let q = c.quote_pass-passed in
     let l = length-take-le x.records.0 x.numbers.now (omega (arith, Q.room)) in
-    let d = rw c.passed-1.given.1 at q.ensures in
+    let d = rw c.in-Done.is at q.ensures in
     let w = quoted-within _ _ _ _ d.0.0 d.1.0 in
-    let e = quoted-there x.k m x.records.0 _ x.work.now x.numbers.now _ _ (omega (arith, Q.areas.1)) (q.auto.1.0 ∙ l) w.1 (omega (arith, Q.areas.1)) d.1.1 in
+    let e = quoted-there x.k m x.records.0 _ x.work.now x.numbers.now _ _ (omega (arith, Q.areas.1)) (q.auto.numbers ∙ l) w.1 (omega (arith, Q.areas.1)) d.1.1 in
     let h = quotable-room Q in (
       record {
         order = w;
         lendable = Q.lendable;
-        areas = (omega (arith, w.1, Q.areas.0, q.auto.0), omega (arith, w.1, Q.areas.1));
-        room = rw e (omega (arith, h, Q.room, q.auto.1.0));
-        small = omega (arith, Q.small, q.auto.1.0);
+        areas = (omega (arith, w.1, Q.areas.0, q.auto.work), omega (arith, w.1, Q.areas.1));
+        room = rw e (omega (arith, h, Q.room, q.auto.numbers));
+        small = omega (arith, Q.small, q.auto.numbers);
       },
       p.1,
     )
@@ -63,9 +63,9 @@ returns-in-Full c = let x = c.args in
     let Q = c.requires.0 in
     let q = c.quote_pass-passed in
     let l = length-take-le x.records.0 x.numbers.now (omega (arith, Q.room)) in
-    let f = rw (lent-before x.k x.records.0 x.work.now x.numbers.now (omega (arith, Q.areas.1))) at (rw c.enum_told-1.given.1 at q.ensures) in
+    let f = rw (lent-before x.k x.records.0 x.work.now x.numbers.now (omega (arith, Q.areas.1))) at (rw c.in-Full.is at q.ensures) in
     let r = c.refuse.ensures in
-    (ends-refused _ (quoting-full _ _ _ _ (omega (arith, f))) r.0 r.1, stays-behind x.records.0 x.records.0 _ x.numbers.now q.new.1.0 (q.auto.1.0 ∙ l) (omega arith) (omega (arith, Q.room)))
+    (ends-refused _ (quoting-full _ _ _ _ (omega (arith, f))) r.0 r.1, stays-behind x.records.0 x.records.0 _ x.numbers.now q.new.numbers (q.auto.numbers ∙ l) (omega arith) (omega (arith, Q.room)))
 
 pub returns-in-Done : goal.returns-in-Done
 returns-in-Done c = let x = c.args in
@@ -74,9 +74,9 @@ returns-in-Done c = let x = c.args in
     let q = c.quote_pass-passed in
     let l = length-take-le x.records.0 x.numbers.now (omega (arith, Q.room)) in
     let b = lent-before x.k x.records.0 x.work.now x.numbers.now (omega (arith, Q.areas.1)) in
-    let d = rw c.passed-1.given.1 at q.ensures in
+    let d = rw c.in-Done.is at q.ensures in
     let w = quoted-within _ _ _ _ d.0.0 d.1.0 in
-    let e = quoted-there x.k m x.records.0 _ x.work.now x.numbers.now _ _ (omega (arith, Q.areas.1)) (q.auto.1.0 ∙ l) w.1 (omega (arith, Q.areas.1)) d.1.1 in
+    let e = quoted-there x.k m x.records.0 _ x.work.now x.numbers.now _ _ (omega (arith, Q.areas.1)) (q.auto.numbers ∙ l) w.1 (omega (arith, Q.areas.1)) d.1.1 in
     let n = rw b at d.0.0 in
     let r = c.write_lists.ensures in
-    (ends_as (rw e at r.0) (quoting-done _ _ _ _ (omega (arith, n))), stays-in _ _ x.records.0 _ _ _ (omega (arith, w.1, Q.areas.1)) (omega arith) r.1 ∙ stays-behind x.records.0 x.records.0 _ x.numbers.now q.new.1.0 (q.auto.1.0 ∙ l) (omega arith) (omega (arith, Q.room)))
+    (ends_as (rw e at r.0) (quoting-done _ _ _ _ (omega (arith, n))), stays-in _ _ x.records.0 _ _ _ (omega (arith, w.1, Q.areas.1)) (omega arith) r.1 ∙ stays-behind x.records.0 x.records.0 _ x.numbers.now q.new.numbers (q.auto.numbers ∙ l) (omega arith) (omega (arith, Q.room)))
