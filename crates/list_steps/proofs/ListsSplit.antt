@@ -9,9 +9,8 @@ use Rattle.text.specs.Cells.{Cell, feed, sign}
 use Rattle.text.specs.Lines.{trim_end, lines, joined}
 use Rattle.text.specs.Decimal.{decimal}
 use Rattle.text.specs.Split.{Split, done, wrote, Keeps}
-use Rattle.text.proofs.SplitLaws.{append, keeps-all, after, behind, taking, copying}
+use Rattle.text.proofs.SplitLaws.{append, keeps-all, after, behind, taking, copying, trim_end-keeps, trim-keeps, lines-keeps, Each, none, each, each_map, joined_keeps}
 use Rattle.text.proofs.SplitLaws as T
-use Rattle.text.proofs.SplitLaws.{trim_end-keeps, trim-keeps, lines-keeps, Each, none, each, each_map, joined_keeps}
 use Rattle.list_blocks.specs.declared.tag.Tag.{Tag}
 use Rattle.list_blocks.specs.declared.tag.Tag.TheVariants.{Opener, Item, Closer, Plain}
 use Rattle.list_blocks.specs.Tags.{tag_at, Token, text, opens, starts, closes, token_of, rest_of, tokens, taken_by, depth_after, taken, taken_lists}

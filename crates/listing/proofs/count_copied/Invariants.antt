@@ -1,7 +1,6 @@
 use mathlib.Core.Path.{◌≡◌}
 use Prim.Native.Nat.{◌+◌, ◌-◌, ◌≤◌}
-use lib.ListN.{length}
-use lib.ListN.{drop}
+use lib.ListN.{length, drop}
 use Rattle.listing.specs.Listing.{copied}
 use Rattle.listing.proofs.count_copied.Given as goal
 

@@ -1,8 +1,7 @@
 use mathlib.Core.Path.{◌≡◌}
 use Prim.Native.Nat.{◌-◌, ◌≤◌}
-use lib.ListN.{length}
+use lib.ListN.{length, take, drop}
 use mathlib.Core.List.{map}
-use lib.ListN.{take, drop}
 use Rattle.text.proofs.Writing.{Writing}
 use Rattle.text.specs.Cells.{cells, sign}
 use Rattle.listing.specs.Listing.{loss_lines}

@@ -1,7 +1,6 @@
 use mathlib.Core.Path.{◌≡◌}
 use Prim.Native.Nat.{◌-◌, ◌≤◌}
-use lib.ListN.{length}
-use lib.ListN.{drop}
+use lib.ListN.{length, drop}
 use mathlib.Core.List.{map}
 use Rattle.text.proofs.Writing.{Writing}
 use Rattle.text.specs.Cells.{cells, sign}

@@ -1,7 +1,6 @@
 use mathlib.Core.Path.{◌≡◌}
 use Prim.Native.Nat.{◌-◌, ◌≤◌}
-use lib.ListN.{length}
-use lib.ListN.{drop}
+use lib.ListN.{length, drop}
 use Rattle.list_blocks.specs.Tags.{tokens, deeper}
 use Rattle.text.specs.Bounds.{deep_most}
 use Rattle.text.specs.Cells.{cells}
