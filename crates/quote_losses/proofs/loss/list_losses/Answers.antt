@@ -1,6 +1,5 @@
 use native.Mathlib.Omega.{arith}
 use mathlib.Core.Path.{refl, ◌∙◌}
-use Prim.Native.Nat.{◌-◌}
 use Rattle.quote_losses.proofs.Recording.{recorded, recorded-on, recorded-end, same-table}
 use Rattle.quote_losses.proofs.Depths.{deepening, deepening-on, deep-end}
 use Rattle.quote_losses.proofs.loss.list_losses.Goals as goal

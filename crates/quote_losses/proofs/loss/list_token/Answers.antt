@@ -1,6 +1,5 @@
 use native.Mathlib.Omega.{arith}
 use mathlib.Core.Path.{refl, sym}
-use Prim.Native.Nat.{◌-◌}
 use Rattle.quote_tags.specs.Tags.{closers, closer_size}
 use Rattle.quote_tags.proofs.Tagging.{behind-within}
 use lib.Seq.{length-take-le}
@@ -57,12 +56,12 @@ overflow_add-result-then-j-ne0 c = let w = behind-within closers c.args.source.n
 
 pub returns-then-j-ne0 : goal.returns-then-j-ne0
 returns-then-j-ne0 c = let t = c.tag_at-tag.ensures in (
-      lists-closer c.args.source.now _ _ _ c.args.from.at.0 _ _ _ _ c.requires.0.0 c.requires.1.0.1 _ t.0 _ t.1.0 c.if-k-ne0.false _ t.1.1 c.if-j-ne0.true,
-      (refl, (λ h. depth-closer c.args.source.now c.args.from.at.0 _ _ c.requires.0.0 h t.1.0 _ c.if-k-ne0.false t.1.1 c.if-j-ne0.true (c.open_less-higher.ensures.0 h), c.open_less-higher.ensures.1)),
-    )
+  lists-closer c.args.source.now _ _ _ c.args.from.at.0 _ _ _ _ c.requires.0.0 c.requires.1.0.1 _ t.0 _ t.1.0 c.if-k-ne0.false _ t.1.1 c.if-j-ne0.true,
+  (refl, (λ h. depth-closer c.args.source.now c.args.from.at.0 _ _ c.requires.0.0 h t.1.0 _ c.if-k-ne0.false t.1.1 c.if-j-ne0.true (c.open_less-higher.ensures.0 h), c.open_less-higher.ensures.1)),
+)
 
 pub returns : goal.returns
 returns c = let t = c.tag_at-tag.ensures in (
-      lists-text c.args.source.now _ _ _ c.args.from.at.0 _ _ _ _ c.requires.0.0 c.requires.1.0.1 _ t.0 _ t.1.0 c.if-k-ne0.false _ t.1.1 c.if-j-ne0.false c.next_tag-later.ensures,
-      (refl, (λ h. depth-text c.args.source.now c.args.from.at.0 _ _ c.requires.0.0 h t.1.0 _ c.if-k-ne0.false t.1.1 c.if-j-ne0.false c.next_tag-later.ensures, (λ h. refl, c.requires.1.0.0.1))),
-    )
+  lists-text c.args.source.now _ _ _ c.args.from.at.0 _ _ _ _ c.requires.0.0 c.requires.1.0.1 _ t.0 _ t.1.0 c.if-k-ne0.false _ t.1.1 c.if-j-ne0.false c.next_tag-later.ensures,
+  (refl, (λ h. depth-text c.args.source.now c.args.from.at.0 _ _ c.requires.0.0 h t.1.0 _ c.if-k-ne0.false t.1.1 c.if-j-ne0.false c.next_tag-later.ensures, (λ h. refl, c.requires.1.0.0.1))),
+)
