@@ -1,6 +1,6 @@
 use native.Mathlib.Omega.{arith}
 use mathlib.Core.Path.{sym, ◌∙◌}
-use Prim.Native.Nat.{ℕ, ◌-◌}
+use Prim.Native.Nat.{ℕ}
 use lib.ListN.{length}
 use Rattle.post.proofs.Calling.{ends-refused, ends-done, ends-finished, refused-noted, converted-full, converted-done, marks-few, marks-front}
 use Rattle.text.proofs.Areas.{area-length}
@@ -40,5 +40,5 @@ returns c = let x = c.args in
     let s = area-length z.new.work z.new.numbers m (omega (arith, p.0.0.1.0, z.auto.work)) (omega (arith, p.0.0.1.1, z.auto.numbers)) in
     let near = c.if-out-n.false in
     let e = sym (take-take z.result.0 m (cells z.new.work z.new.numbers) near) ∙ marks-front x.post.now _ m _ 0 0 z.ensures s near in
-    let d = converted-done x.post.now _ m _ x.lent (length x.loss-bytes.now) z.ensures s near in
+    let d = converted-done x.post.now _ m _ x.lent (length x.loss_bytes.now) z.ensures s near in
     ends-done (ends-finished x.post.now _ e c.convert_marked.ensures) (rw e d)

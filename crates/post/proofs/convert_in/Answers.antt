@@ -1,6 +1,5 @@
 use native.Mathlib.Omega.{arith}
 use mathlib.Core.Path.{sym}
-use Prim.Native.Nat.{◌-◌}
 use Rattle.post.proofs.Calling.{noted-longer}
 use lib.Seq.{length-take-le}
 use Rattle.post.proofs.convert_in.Goals as goal

@@ -1,5 +1,4 @@
 use mathlib.Core.Path.{sym, ◌∙◌}
-use Prim.Native.Nat.{◌-◌}
 use Rattle.lending.proofs.Sizes.{enough}
 use Rattle.post.specs.Calls.{answered}
 use Rattle.post.proofs.Calling.{ends-refused, ends_as, answer-refused, answer-fine, refused-noted}

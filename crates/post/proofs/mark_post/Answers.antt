@@ -1,5 +1,4 @@
 use native.Mathlib.Omega.{arith}
-use Prim.Native.Nat.{◌-◌}
 use Rattle.post.proofs.Calling.{marks-same}
 use Rattle.chain.specs.Post.{marks_text}
 use Rattle.post.proofs.mark_post.Goals as goal

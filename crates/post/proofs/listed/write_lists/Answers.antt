@@ -53,4 +53,4 @@ returns-in-Done c = let x = c.args in
     let q = c.list_pass-passed in
     let d = rw k at (rw c.in-Done.is at q.ensures.0) in
     let r = c.lay_text.ensures in
-    (written-done _ _ _ _ _ _ _ _ _ d r.0 r.1.0 (r.1.1 ∙ cleared-taken x.losses.bytes x.loss-bytes.now _ p.1 refl), stays-in _ x.table.0 _ _ _ _ (omega (arith, k)) (omega arith) q.ensures.1.numbers-behind)
+    (written-done _ _ _ _ _ _ _ _ _ d r.0 r.1.0 (r.1.1 ∙ cleared-taken x.losses.bytes x.loss_bytes.now _ p.1 refl), stays-in _ x.table.0 _ _ _ _ (omega (arith, k)) (omega arith) q.ensures.1.numbers-behind)

@@ -1,6 +1,5 @@
 use native.Mathlib.Omega.{arith}
 use mathlib.Core.Path.{refl, sym, ◌∙◌}
-use Prim.Native.Nat.{◌-◌}
 use lib.ListN.{length}
 use Rattle.post.proofs.Unchanged.{unlisted-ends}
 use Rattle.post.proofs.Calling.{cleared-taken}
@@ -30,7 +29,7 @@ returns-then-no_lists c = let x = c.args in
     let L = c.requires in
     let r = c.lay_text.ensures in
     let l = area-length x.work.now x.numbers.now x.k (omega (arith, L.areas)) (omega (arith, L.areas, L.room)) in
-    unlisted-ends (take x.k (cells x.work.now x.numbers.now)) (take x.k x.work.now) (length x.out.now) (cells-bytes x.k x.work.now x.numbers.now (omega (arith, L.areas)) (omega (arith, L.areas, L.room))) (omega (arith, l, L.order.1)) 0 0 (c.no_lists.ensures c.if-no_lists.true) (omega (arith, l)) r.0 r.1.0 (r.1.1 ∙ cleared-taken 0 x.loss-bytes.now _ (omega arith) refl)
+    unlisted-ends (take x.k (cells x.work.now x.numbers.now)) (take x.k x.work.now) (length x.out.now) (cells-bytes x.k x.work.now x.numbers.now (omega (arith, L.areas)) (omega (arith, L.areas, L.room))) (omega (arith, l, L.order.1)) 0 0 (c.no_lists.ensures c.if-no_lists.true) (omega (arith, l)) r.0 r.1.0 (r.1.1 ∙ cleared-taken 0 x.loss_bytes.now _ (omega arith) refl)
 
 pub write_lists-requires : goal.write_lists-requires
 write_lists-requires c = (c.requires, omega arith)

@@ -1,6 +1,5 @@
 use native.Mathlib.Omega.{arith}
 use mathlib.Core.Path.{◌∙◌}
-use Prim.Native.Nat.{◌-◌}
 use Rattle.post.proofs.Calling.{quotable-room, stays-taken}
 use Rattle.post.proofs.quoted.write_noted.Goals as goal
 

@@ -1,6 +1,6 @@
 use native.Mathlib.Omega.{arith}
 use mathlib.Core.Path.{sym, ap, ◌∙◌}
-use Prim.Native.Nat.{ℕ, ◌-◌}
+use Prim.Native.Nat.{ℕ}
 use lib.ListN.{length}
 use Rattle.post.proofs.Calling.{ends-refused, ends_as, quoting-full, quoting-done, lent-before, stays-behind, stays-in, quotable-room, quoted-there}
 use Rattle.quotes.proofs.Conversion.{quoted-within}

@@ -1,7 +1,6 @@
 use borrow.Author.Rules.{rules}
 use native.Mathlib.Omega.{arith}
 use mathlib.Core.Path.{◌≡◌, refl}
-use Prim.Native.Nat.{◌-◌}
 use lib.ListN.{length-set}
 use Rattle.post_steps.proofs.Moving.{moved-turn, moved-rest}
 use Rattle.post_steps.proofs.front.move_front.Goals as goal
