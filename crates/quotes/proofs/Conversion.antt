@@ -16,8 +16,6 @@ use Rattle.lending.specs.declared.lent.Refusal.TheVariants.{NoSpace}
 use Rattle.lending.specs.declared.lent.Checked.{Checked}
 use Rattle.lending.specs.declared.lent.Checked.TheVariants as C
 use Rattle.text.proofs.Clearing.{laid-cleared}
-use Rattle.losses.specs.declared.Loss.{Loss}
-use Rattle.losses.specs.Records.{records_lent}
 use Rattle.attribution_parts.specs.Attribution.{caption}
 use Rattle.quote_tags.specs.Masks.{visible}
 use Rattle.quote_lines.specs.Lines.{tags, lines_of}
@@ -26,7 +24,7 @@ use Rattle.quote_blocks.proofs.QuotesFit.{quotes-fit}
 use Rattle.quotes.specs.declared.Quoted.{Quoted}
 use Rattle.quotes.specs.declared.Quoted.TheVariants.{Done, Refused}
 use Rattle.quote_losses.specs.Losses.{quote_losses, loss_bytes, loss_records, ListsLosses}
-use Rattle.quotes.specs.Calls.{limited, spaced, answer_by, converted, losses_by, Filled, Called, Noted, Answers, Numbered, Spelled}
+use Rattle.quotes.specs.Calls.{limited, spaced, answer_by, converted, Filled, Noted, Answers, Spelled}
 
 -- ---- losses
 
@@ -96,11 +94,6 @@ module _ (text : List ℕ) (j losses base : ℕ) (ns rest : List ℕ) (few : los
   pub spaced-noted : (m : ℕ) (l : Quoted) → l ≡ spaced (cells_of text) m → Noted text j l (take base ns ++ rest)
   unfolding spaced
   spaced-noted m l e = noted-by (ltb m (quotes_need caption (cells_of text))) l _ _ e
-
--- the records are filled from the numbers
-pub called : (text : List ℕ) (m k j b w n : ℕ) (r : Quoted) (out plain numbers words : List ℕ) (records : List Loss) → Numbered text m k j b w n r out plain numbers words
-    → records ≡ records_lent j (take (5 * losses_by r) numbers) → Called text m k j b w n r out plain records words
-called text m k j b w n r out plain numbers words records c e = record { answer = c.0.answer; filled = c.0.filled; listed = e ∙ ap (records_lent j) c.1.there }
 
 -- ---- the pass
 

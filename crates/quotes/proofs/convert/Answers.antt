@@ -1,6 +1,6 @@
 use native.Mathlib.Omega.{arith}
 use mathlib.Core.Path.{sym, ◌∙◌}
-use Prim.Native.Nat.{◌-◌, ◌*◌}
+use Prim.Native.Nat.{◌*◌}
 use lib.ListN.{length}
 use lib.Seq.{length-take-le}
 use Rattle.text.specs.Cells.{cells_of}
@@ -34,10 +34,10 @@ returns-in-Fine c = let pre = c.requires in
     let o = c.list_own-c in
     let ln = o.auto.numbers in
     let lb = o.auto.loss_bytes in
+    let l = length-take-le (5 * length t) c.args.numbers.now (omega (arith, pre.0.1.1)) in
     let n = listed-counts t _ _ _ _ _ _ _ o.ensures.0 (cells_of t) (bytes-cells_of t) in
     let v = converted-by (cells_of t) _ _ _ _ _ _ _ lb (sym (c.list_own-c.ensures.1 (cells_of t) (bytes-cells_of t))) n.0 n.1 in
     let w = within c.list_own-c.result.deep c.args.lent (length c.list_own-c.new.loss_bytes) c.list_own-c.result.losses c.list_own-c.result.bytes (sym c.refusal_of-refused.ensures ∙ c.in-Fine.is) in
-    let l = length-take-le (5 * length t) c.args.numbers.now (omega (arith, pre.0.1.1)) in
     let e = rw lb at c.write_quotes.ensures in (
       answers-fine _ _ v (sym c.refusal_of-refused.ensures ∙ c.in-Fine.is) e,
       spaced-noted t _ _ (5 * length t) o.new.numbers _ w.1.0 (records-there t _ _ _ _ _ _ _ o.ensures.0 (cells_of t) (bytes-cells_of t) (omega (arith, o.ensures.0.few, l))) (omega (arith, o.ensures.0.few)) (omega (arith, pre.0.1.1, ln)) n.0 _ _ e.answer,

@@ -1,5 +1,4 @@
 use mathlib.Core.Path.{refl, sym, ◌∙◌}
-use Prim.Native.Nat.{◌-◌}
 use Rattle.lending.proofs.Sizes.{enough}
 use Rattle.quotes.specs.Calls.{answered}
 use Rattle.quotes.proofs.Conversion.{answers-refused, answers-fine, refused-noted}

@@ -1,6 +1,5 @@
 use native.Mathlib.Omega.{arith}
 use mathlib.Core.Path.{sym}
-use Prim.Native.Nat.{◌-◌}
 use lib.Seq.{length-take-le}
 use Rattle.quote_losses.proofs.Recording.{front_kept, front_long, back_is, same-table, lists-as}
 use Rattle.quotes.proofs.list_own.Goals as goal

@@ -1,5 +1,4 @@
 use mathlib.Core.Path.{refl, ◌∙◌}
-use Prim.Native.Nat.{◌-◌}
 use Rattle.text.proofs.Clearing.{cleared-all}
 use Rattle.quotes.proofs.refuse.Goals as goal
 

@@ -1,6 +1,5 @@
 use native.Mathlib.Omega.{arith}
 use mathlib.Core.Path.{refl, ap, ◌∙◌}
-use Prim.Native.Nat.{◌-◌}
 use mathlib.Core.List.{[]}
 use Rattle.quotes.proofs.Conversion.{source-taken, written-full, written-done, quoted-within}
 use Rattle.quote_blocks.specs.Quotes.{too_deep}
