@@ -1,5 +1,4 @@
 use mathlib.Core.Path.{sym, ap, ◌∙◌}
-use Prim.Native.Nat.{◌-◌}
 use Rattle.carve.specs.Counts.{day_counts}
 use Rattle.day.specs.Day.{number_of_answer}
 use Rattle.carve.proofs.carve_day.Goals as goal

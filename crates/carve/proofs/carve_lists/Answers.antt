@@ -1,6 +1,5 @@
 use native.Mathlib.Omega.{arith}
 use mathlib.Core.Path.{refl, sym, ◌∙◌}
-use Prim.Native.Nat.{◌-◌}
 use Rattle.carve.proofs.Bounds.{lists-small}
 use Rattle.carve.proofs.Reporting.{reports}
 use Rattle.carve.proofs.carve_lists.Goals as goal

@@ -1,6 +1,5 @@
 use native.Mathlib.Omega.{arith}
 use mathlib.Core.Path.{refl, sym, ◌∙◌}
-use Prim.Native.Nat.{◌-◌}
 use Rattle.carve.proofs.Bounds.{marks-small}
 use Rattle.carve.proofs.Reporting.{reports}
 use Rattle.carve.proofs.carve_marks.Goals as goal

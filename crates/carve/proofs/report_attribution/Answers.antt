@@ -1,5 +1,4 @@
 use mathlib.Core.Path.{refl}
-use Prim.Native.Nat.{◌-◌}
 use Rattle.attribution.specs.Calls as Attribution
 use Rattle.carve.proofs.Reporting.{reported, countable}
 use Rattle.carve.proofs.report_attribution.Goals as goal

@@ -1,5 +1,4 @@
 use mathlib.Core.Path.{refl}
-use Prim.Native.Nat.{◌-◌}
 use Rattle.post.specs.Calls as Post
 use Rattle.carve.proofs.Reporting.{reported, countable}
 use Rattle.carve.proofs.report_post.Goals as goal

@@ -1,5 +1,4 @@
 use mathlib.Core.Path.{refl}
-use Prim.Native.Nat.{◌-◌}
 use Rattle.quotes.specs.Calls as Quotes
 use Rattle.carve.proofs.Reporting.{reported, countable}
 use Rattle.carve.proofs.report_quotes.Goals as goal

@@ -1,5 +1,4 @@
 use mathlib.Core.Path.{refl}
-use Prim.Native.Nat.{◌-◌}
 use lib.ListN.{length}
 use Rattle.post_listing.proofs.Laws.{taken, listing-asked, done-listed}
 use Rattle.post_listing.proofs.list_done.Goals as goal

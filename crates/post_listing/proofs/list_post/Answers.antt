@@ -1,5 +1,4 @@
 use native.Mathlib.Omega.{arith}
-use Prim.Native.Nat.{◌-◌}
 use borrow.Author.Tests.{lt-ltb}
 use Rattle.post_listing.proofs.Laws.{too_long, refused-listed, all_listed}
 use Rattle.post_listing.proofs.list_post.Goals as goal
