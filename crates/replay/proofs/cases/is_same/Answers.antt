@@ -1,7 +1,6 @@
 use borrow.Author.Rules.{rules}
 use native.Mathlib.Omega.{arith}
 use mathlib.Core.Path.{refl, sym, ◌∙◌}
-use Prim.Native.Nat.{◌-◌}
 use Rattle.replay.proofs.Comparing.{same_end, same-long, same-short, same-other, same_more}
 use Rattle.replay.proofs.cases.is_same.Goals as goal
 
