@@ -4,4 +4,3 @@ pub mod Bracketing
 pub mod Reading
 pub mod Blocks
 pub mod Kept
-mod Examples

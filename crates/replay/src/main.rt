@@ -33,6 +33,11 @@ fn replay_case<W: Write>(out: &mut W, number: usize, case: &[u8]) -> io::Result<
     Ok(false)
 }
 
+fn print_count<W: Write>(out: &mut W, key: &[u8], n: usize) -> io::Result<()> {
+    out.write_all(key)?;
+    writeln!(out, "{n}")
+}
+
 fn replay<W: Write>(out: &mut W, file: &[u8]) -> io::Result<()> {
     let mut at: usize = 0;
     let mut cases: usize = 0;
@@ -45,8 +50,8 @@ fn replay<W: Write>(out: &mut W, file: &[u8]) -> io::Result<()> {
         }
         at = end;
     }
-    writeln!(out, "cases={cases}")?;
-    writeln!(out, "equal={equal}")
+    print_count(out, b"cases=", cases)?;
+    print_count(out, b"equal=", equal)
 }
 
 fn main(rt: HostRuntime) -> io::Result<()> {
