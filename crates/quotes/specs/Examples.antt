@@ -140,9 +140,9 @@ shortest : Shows (ascii "[code]a\n[/CODE][quote=x]\n[/code]") "       \n       [
 unfolding ascii_computes tags_compute masks_compute
 shortest = refl
 
-with-value : Shows (ascii "[code=a\n]b[/code]c[code=[/code]") "       \n         c[code=[/code]"
+with_value : Shows (ascii "[code=a\n]b[/code]c[code=[/code]") "       \n         c[code=[/code]"
 unfolding ascii_computes tags_compute masks_compute
-with-value = refl
+with_value = refl
 
 -- code first
 code-first : Shows (ascii "[c][code]\n[quote=a][/c][/code]\n[quote=a]") "[c]      \n                    \n[quote=a]"
@@ -219,9 +219,9 @@ records-next : Refuses lossy 0 0 0 7
 unfolding lossy ascii_computes blanks_compute cells_compute lines_compute tags_compute quotes_compute losses_compute loss_words parts_compute attribution_computes day_computes calls_compute
 records-next = refl
 
-bytes-next : Refuses lossy 0 1 3 8
+bytes_next : Refuses lossy 0 1 3 8
 unfolding lossy ascii_computes blanks_compute cells_compute lines_compute tags_compute quotes_compute losses_compute loss_words parts_compute attribution_computes day_computes calls_compute
-bytes-next = refl
+bytes_next = refl
 
 space-last : Refuses lossy 6 1 4 6
 unfolding lossy ascii_computes blanks_compute cells_compute lines_compute tags_compute quotes_compute losses_compute loss_words parts_compute attribution_computes day_computes calls_compute
