@@ -12,5 +12,6 @@ pub mod SplitLaws
 pub mod Copying
 pub mod Bracketing
 pub mod Areas
+pub mod Writers
 pub mod Blocks
 pub mod Sources

@@ -5,6 +5,7 @@ pub mod Cells
 pub mod Lines
 pub mod Decimal
 pub mod Writes
+pub mod Writers
 pub mod Split
 pub mod Origins
 pub mod Examples

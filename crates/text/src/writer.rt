@@ -1,0 +1,102 @@
+// A writer: it appends cells to an area of a longer pair of slices, from a place `at` up to a place `end`; nothing before and nothing behind the area changes.
+// What stands before or behind it is a source: its cells can be appended too. Where a text does not fit, the place goes past every end and stays there.
+ghost use Rattle.std.specs.Prelude.{◌≡◌, [], ◌∷◌, map, ◌≤◌, length, leb};
+ghost use Rattle.text.specs.Cells.{cell, cells, part, written, feed, sign};
+ghost use Rattle.text.specs.Decimal.{decimal};
+ghost use Rattle.text.specs.Writes.{Apart, cut};
+
+use crate::WorkAt;
+use crate::area::{copy_back, copy_within, put_in, put_text_in, put_within};
+use crate::cell::{RULE_BLANK, RULE_SIGN};
+
+#[derive(Drop)]
+pub struct Writer<'a> {
+    pub bytes: &'a mut [u8],
+    pub numbers: &'a mut [u32],
+    pub at: WorkAt,
+    pub end: usize,
+    ghost bytes_reach: { end ≤ length bytes.now },
+    ghost numbers_reach: { end ≤ length numbers.now },
+}
+
+impl Writer<'_> {
+    ghost use Rattle.text.specs.Writers.{Wrote};
+
+    // Appends one cell.
+    pub fn put(&mut self, b: u8, x: u32)
+        ensures { Wrote self.old self.new (cell b x ∷ []) }
+    {
+        self.at = put_in(self.bytes, self.numbers, self.end, self.at, b, x);
+    }
+
+    // Appends a line feed that a rule writes.
+    pub fn put_feed(&mut self)
+        ensures { Wrote self.old self.new (feed ∷ []) }
+    {
+        self.put(b'\n', RULE_BLANK);
+    }
+
+    // Appends a space that a rule writes.
+    pub fn put_space(&mut self)
+        ensures { Wrote self.old self.new (cell 32 1 ∷ []) }
+    {
+        self.put(b' ', RULE_BLANK);
+    }
+
+    // Appends a byte that a rule writes and that is not blank.
+    pub fn put_sign(&mut self, b: u8)
+        ensures { Wrote self.old self.new (sign b ∷ []) }
+    {
+        self.put(b, RULE_SIGN);
+    }
+
+    // Appends a text that a rule writes.
+    pub fn put_text(&mut self, src: &[u8])
+        ensures { Wrote self.old self.new (written src.now) }
+    {
+        self.at = put_text_in(src, self.bytes, self.numbers, self.end, self.at);
+    }
+
+    // Appends the bytes from a up to e of the same slice, which stand outside of the area, as a text that a rule writes.
+    pub fn put_within(&mut self, a: usize, e: usize)
+        requires { (e ≤ length self.old.bytes.now) × Apart a e self.old.at.0 self.old.end }
+        ensures { Wrote self.old self.new (written (cut a e self.old.bytes.now)) }
+    {
+        self.at = put_within(self.bytes, self.numbers, a, e, self.end, self.at);
+    }
+
+    // Appends the cells from a up to e of the same pair of slices, which stand before the place.
+    pub fn copy_within(&mut self, a: WorkAt, e: WorkAt)
+        requires { (a.0 ≤ e.0) × ((e.0 ≤ self.old.at.0) × (e.0 ≤ self.old.end)) }
+        ensures { Wrote self.old self.new (part a.0 e.0 (cells self.old.bytes.now self.old.numbers.now)) }
+    {
+        self.at = copy_within(self.bytes, self.numbers, a, e, self.end, self.at);
+    }
+
+    // Appends the cells from a up to e of the same pair of slices, which stand behind the area.
+    pub fn copy_back(&mut self, a: WorkAt, e: WorkAt)
+        requires { ((a.0 ≤ e.0) × (self.old.end ≤ a.0)) × ((e.0 ≤ length self.old.bytes.now) × (e.0 ≤ length self.old.numbers.now)) }
+        ensures { Wrote self.old self.new (part a.0 e.0 (cells self.old.bytes.now self.old.numbers.now)) }
+    {
+        self.at = copy_back(self.bytes, self.numbers, a, e, self.end, self.at);
+    }
+
+    // Appends a number in decimal.
+    pub fn put_decimal(&mut self, n: u32)
+        ensures { Wrote self.old self.new (map sign (decimal n)) }
+    {
+        if n < 10 {
+            self.put_sign((48 + n) as u8);
+            return;
+        }
+        self.put_decimal(n / 10);
+        self.put_sign((48 + n % 10) as u8);
+    }
+
+    // Whether what was appended fits.
+    pub fn fits(&self) -> bool
+        ensures { result ≡ leb self.now.at.0 self.now.end }
+    {
+        self.at.0 <= self.end
+    }
+}
