@@ -6,14 +6,13 @@ use Prim.Native.Nat.{ℕ, ◌+◌, ◌*◌, ◌≤◌}
 use native.Mathlib.Omega.{arith}
 use lib.ListN.{length}
 use lib.Dec.{leb}
+use Rattle.std.specs.Prelude.{Result, Ok, Err}
 use borrow.Author.Tests.{leb-true}
 use Rattle.text.proofs.Bytes.{both}
 use Rattle.text.specs.Bounds.{text_most, out_most}
 use Rattle.lending.specs.Lent.{spans_right, sizes_right, checked}
 use Rattle.lending.specs.declared.lent.Refusal.{Refusal}
 use Rattle.lending.specs.declared.lent.Lent.{Lent}
-use Rattle.lending.specs.declared.lent.Checked.{Checked}
-use Rattle.lending.specs.declared.lent.Checked.TheVariants.{Fine, Refused}
 
 pub record Enough (n : ℕ) (l : Lent) : Type 0 where
   pub text : n ≤ text_most
@@ -22,11 +21,11 @@ pub record Enough (n : ℕ) (l : Lent) : Type 0 where
   pub work : n + 3 * l.out ≤ l.work
   pub numbers : 8 * n + 3 * l.out + 64 ≤ l.numbers
 
-first_fine : (t : Bool) (x : Checked) (r : Refusal) → cond t x (Refused r) ≡ Fine → (t ≡ true) × (x ≡ Fine)
+first_fine : (t : Bool) (x : Result (Unit {0}) Refusal) (r : Refusal) → cond t x (Err r) ≡ Ok tt → (t ≡ true) × (x ≡ Ok tt)
 first_fine true x r h = (refl, h)
 first_fine false x r h = let z : ◌≡◌ {A = ℕ} 0 1 = cc in absurd (omega arith)
 
-pub enough : (text : List ℕ) (l : Lent) → checked text l ≡ Fine → Enough (length text) l
+pub enough : (text : List ℕ) (l : Lent) → checked text l ≡ Ok tt → Enough (length text) l
 unfolding checked sizes_right
 enough text l h =
     let a = first_fine (leb (length text) text_most) _ _ h in

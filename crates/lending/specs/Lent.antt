@@ -4,16 +4,12 @@
 --   zero_or_return b        a byte 0 or 13: refusal 4 where one is present
 --   checked text lent     the first of the refusals 1 to 4 that applies
 -- Assumes nothing.
-use Rattle.std.specs.Prelude.{ℕ, ◌*◌, ◌/◌, Bool, true, false, cond, ◌&&◌, ◌||◌, List, [], ◌∷◌, length, eqb, leb}
+use Rattle.std.specs.Prelude.{ℕ, ◌*◌, ◌/◌, Bool, true, false, cond, ◌&&◌, ◌||◌, List, [], ◌∷◌, length, eqb, leb, Option, Some, None, Result, Ok, Err}
 use Rattle.text.specs.Bounds.{text_most, out_most, work_size, numbers_size}
 use Rattle.lending.specs.Utf8.{utf8}
 use Rattle.lending.specs.declared.lent.Refusal.{Refusal}
 use Rattle.lending.specs.declared.lent.Refusal.TheVariants.{TextTooLong, SizesWrong, NotUtf8, ZeroOrReturn, TooDeep, NoSpace, TooManyLosses, LossBytesShort, NotSeconds}
-use Rattle.lending.specs.declared.lent.Spans.{Spans}
-use Rattle.lending.specs.declared.lent.Spans.TheVariants.{Without, Of}
 use Rattle.lending.specs.declared.lent.Lent.{Lent}
-use Rattle.lending.specs.declared.lent.Checked.{Checked}
-use Rattle.lending.specs.declared.lent.Checked.TheVariants.{Fine, Refused}
 
 abbrev pub number_of : Refusal → ℕ
 number_of TextTooLong = 1
@@ -27,9 +23,9 @@ number_of LossBytesShort = 8
 number_of NotSeconds = 9
 
 -- marks alone is lent spans
-abbrev pub spans_right : (n : ℕ) → Spans → Bool
-spans_right n Without = true
-spans_right n (Of spans) = leb (2 * (n / 3)) spans
+abbrev pub spans_right : (n : ℕ) → Option ℕ → Bool
+spans_right n None = true
+spans_right n (Some spans) = leb (2 * (n / 3)) spans
 
 unfoldable pub sizes_right : (n : ℕ) → Lent → Bool
 sizes_right n lent =
@@ -46,15 +42,15 @@ unfoldable pub any_zero_or_return : List ℕ → Bool
 any_zero_or_return [] = false
 any_zero_or_return (b ∷ s) = zero_or_return b || any_zero_or_return s
 
-unfoldable pub checked : List ℕ → Lent → Checked
+unfoldable pub checked : List ℕ → Lent → Result (Unit {0}) Refusal
 checked text lent =
     cond (leb (length text) text_most)
     (cond (sizes_right (length text) lent)
     (cond (utf8 text)
-    (cond (any_zero_or_return text) (Refused ZeroOrReturn) Fine)
-    (Refused NotUtf8))
-    (Refused SizesWrong))
-    (Refused TextTooLong)
+    (cond (any_zero_or_return text) (Err ZeroOrReturn) (Ok tt))
+    (Err NotUtf8))
+    (Err SizesWrong))
+    (Err TextTooLong)
 
 -- all of this module, for `unfolding` where a closed call is to be computed
 unfoldable pub computes : Unit {0}

@@ -3,93 +3,54 @@ ghost use Rattle.std.specs.Prelude.{◌≡◌, not, cond, ◌&&◌, ◌||◌, �
 ghost use Rattle.text.specs.Ascii.{to_first};
 ghost use Rattle.text.specs.Bounds.{text_most};
 ghost use Rattle.lending.specs.Utf8.{utf8};
-ghost use Rattle.lending.specs.Lent.{number_of, spans_right, sizes_right, zero_or_return, any_zero_or_return, checked};
+ghost use Rattle.lending.specs.Lent.{number_of, sizes_right, zero_or_return, any_zero_or_return, checked};
 
 use crate::utf8::{char_size, is_utf8};
 use text::bounds::{OUT_MOST, TEXT_MOST, numbers_size, work_size};
 use text::scan::{first_in_16, stands_in_16};
 
-#[derive(Clone, Copy)]
+// Why a call is turned back; the numbers are document 01's.
+#[derive(Clone, Copy, Debug, PartialEq, Eq)]
 pub enum Refusal {
-    TextTooLong,
-    SizesWrong,
-    NotUtf8,
-    ZeroOrReturn,
-    TooDeep,
-    NoSpace,
-    TooManyLosses,
-    LossBytesShort,
-    NotSeconds,
+    TextTooLong = 1,
+    SizesWrong = 2,
+    NotUtf8 = 3,
+    ZeroOrReturn = 4,
+    TooDeep = 5,
+    NoSpace = 6,
+    TooManyLosses = 7,
+    LossBytesShort = 8,
+    NotSeconds = 9,
 }
 
-// How many span numbers are lent: marks alone takes some.
-#[derive(Clone, Copy)]
-pub enum Spans {
-    Without,
-    Of(usize),
+impl From<Refusal> for u32 {
+    ghost from_gives = { λ refusal number. number ≡ number_of refusal };
+
+    fn from(refusal: Refusal) -> u32 {
+        refusal as u32
+    }
 }
 
-// The lengths of what is lent.
-#[derive(Clone, Copy)]
+// The lengths of what is lent; of span numbers only where marks takes some.
+#[derive(Clone, Copy, Debug)]
 pub struct Lent {
     pub out: usize,
     pub origins: usize,
     pub work: usize,
     pub numbers: usize,
-    pub spans: Spans,
+    pub spans: Option<usize>,
 }
 
-#[derive(Clone, Copy)]
-pub enum Checked {
-    Fine,
-    Refused(Refusal),
-}
-
-// Document 01's number of a refusal.
-pub fn number_of(r: Refusal) -> u32
-    ensures { result ≡ number_of r }
-{
-    match r {
-        Refusal::TextTooLong => 1,
-        Refusal::SizesWrong => 2,
-        Refusal::NotUtf8 => 3,
-        Refusal::ZeroOrReturn => 4,
-        Refusal::TooDeep => 5,
-        Refusal::NoSpace => 6,
-        Refusal::TooManyLosses => 7,
-        Refusal::LossBytesShort => 8,
-        Refusal::NotSeconds => 9,
-    }
-}
-
-fn spans_right(n: usize, spans: Spans) -> bool
-    ensures { result ≡ spans_right n spans }
-{
-    match spans {
-        Spans::Without => true,
-        Spans::Of(k) => 2 * (n / 3) <= k,
-    }
-}
-
+#[tactic(auto, unfolding(crate::specs::Lent::sizes_right))]
 fn sizes_right(n: usize, lent: Lent) -> bool
     requires { n ≤ text_most }
     ensures { result ≡ sizes_right n lent }
 {
-    let m = lent.out;
-    if OUT_MOST < m {
-        return false;
-    }
-    if lent.origins < m {
-        return false;
-    }
-    if lent.work < work_size(n, m) {
-        return false;
-    }
-    if lent.numbers < numbers_size(n, m) {
-        return false;
-    }
-    let spans = lent.spans;
-    spans_right(n, spans)
+    lent.out <= OUT_MOST
+        && lent.out <= lent.origins
+        && work_size(n, lent.out) <= lent.work
+        && numbers_size(n, lent.out) <= lent.numbers
+        && lent.spans.is_none_or(|spans| 2 * (n / 3) <= spans)
 }
 
 fn is_zero_or_return(b: u8) -> bool
@@ -182,20 +143,22 @@ fn is_clean(s: &[u8]) -> bool
 }
 
 // The first of the refusals 1 to 4 that applies.
-pub fn check(text: &[u8], lent: Lent) -> Checked
+#[tactic(auto, unfolding(crate::specs::Lent::checked))]
+pub fn check(text: &[u8], lent: Lent) -> Result<(), Refusal>
     ensures { result ≡ checked text.now lent }
 {
-    if TEXT_MOST < text.len() {
-        return Checked::Refused(Refusal::TextTooLong);
+    if text.len() > TEXT_MOST {
+        return Err(Refusal::TextTooLong);
     }
-    if sizes_right(text.len(), lent) {
-        if is_clean(text) {
-            return Checked::Fine;
-        }
-        if is_utf8(text) {
-            return Checked::Refused(Refusal::ZeroOrReturn);
-        }
-        return Checked::Refused(Refusal::NotUtf8);
+    if !sizes_right(text.len(), lent) {
+        return Err(Refusal::SizesWrong);
     }
-    Checked::Refused(Refusal::SizesWrong)
+    if is_clean(text) {
+        return Ok(());
+    }
+    Err(if is_utf8(text) {
+        Refusal::ZeroOrReturn
+    } else {
+        Refusal::NotUtf8
+    })
 }

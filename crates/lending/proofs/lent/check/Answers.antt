@@ -4,10 +4,6 @@ use Rattle.text.proofs.Decide.{decide}
 use Rattle.lending.proofs.Lending.{clean-yes, clean-no}
 use Rattle.lending.proofs.lent.check.Goals as goal
 
-pub returns-then-text-gt-TEXT_MOST : goal.returns-then-text-gt-TEXT_MOST
-unfolding checked
-returns-then-text-gt-TEXT_MOST c = sym (search decide depth 12)
-
 pub returns-then-is_clean : goal.returns-then-is_clean
 unfolding checked
 returns-then-is_clean c = let p = clean-yes c.args.text.now (sym c.is_clean.ensures ∙ c.if-is_clean.true) in
@@ -20,11 +16,3 @@ unfolding checked
 returns-then-is_utf8 c = let u = sym c.is_utf8.ensures ∙ c.if-is_utf8.true in
     let z = clean-no c.args.text.now (sym c.is_clean.ensures ∙ c.if-is_clean.false) u in
     sym (search decide depth 12)
-
-pub returns-then-sizes_right : goal.returns-then-sizes_right
-unfolding checked
-returns-then-sizes_right c = sym (search decide depth 12)
-
-pub returns : goal.returns
-unfolding checked
-returns c = sym (search decide depth 12)
