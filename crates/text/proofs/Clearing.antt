@@ -5,8 +5,11 @@ use native.Mathlib.Nat.{zero-sub, suc-sub-suc, sub-zero, le_of_suc-le-suc, not-s
 use native.Mathlib.Numerals.{add-one}
 use Rattle.text.specs.Cells.{cells, bytes, origins}
 use mathlib.Core.List.{List, [], ◌∷◌, ◌++◌, map}
-use lib.ListN.{length, take, get_or, set, length-map}
+use lib.ListN.{length, take, drop, get_or, set, replicate, length-map}
 use lib.Seq.{take-nil, take-suc, take-suc-set, length-take-le}
+use borrow.Rule.Slice.PartMut.{put_mid}
+use Rattle.std.proofs.Common.{◌-◌, arith, append-nil}
+use Rattle.std.proofs.lemmas.List.{length-drop, length-take, drop_all}
 use Rattle.text.specs.Writes.{cleared, padded}
 
 step : (i : ℕ) (xs : List ℕ) → i < length xs → cleared (suc i) (set xs i 0) ≡ cleared i xs
@@ -23,6 +26,23 @@ unfolding cleared
 cleared-done i [] h = rw (take-nil, zero-sub)
 cleared-done zero (x ∷ xs) h = absurd (not-suc-le-zero h)
 cleared-done (suc i) (x ∷ xs) h = rw suc-sub-suc (ap (λ (l : List ℕ). x ∷ l) (cleared-done i xs (le_of_suc-le-suc h)))
+
+-- what `xs[a..].fill(0)` leaves, and what `xs.fill(0)` leaves: the last argument is the call's `ensures.after`, and `search (rules, fill_cleared)` finds it
+
+length-rest : (a : ℕ) (xs : List ℕ) → length (take (length xs - a) (drop a xs)) ≡ length xs - a
+length-rest a xs = simp (length-take, length-drop) (omega arith)
+
+pub fill_cleared : (a : ℕ) (xs ys : List ℕ) → a ≤ length xs
+    → (((y : ℕ) → y ≡ 0 → y ≡ 0) → ys ≡ replicate (length (take (length xs - a) (drop a xs))) 0) → put_mid a (length xs - a) xs ys ≡ cleared a xs
+unfolding cleared
+fill_cleared a xs ys h filled =
+    let e = filled (λ y (k : y ≡ 0). k) in
+    let none : drop (length xs - a) (drop a xs) ≡ [] = drop_all (length xs - a) (drop a xs) (simp length-drop (omega arith)) in
+    rw (e, length-rest, none, append-nil)
+
+pub fill_cleared_all : (xs ys : List ℕ) → (((y : ℕ) → y ≡ 0 → y ≡ 0) → ys ≡ replicate (length xs) 0) → ys ≡ cleared 0 xs
+unfolding cleared
+fill_cleared_all xs ys filled = rw sub-zero (filled (λ y (k : y ≡ 0). k))
 
 -- ---- laying out
 
