@@ -11,6 +11,7 @@ pub fn read_full<R: Read>(input: &mut R, buf: &mut [u8]) -> io::Result<usize>
     ensures { IfOk result (λ n. n ≤ length buf.new) }
 {
     let mut done = 0;
+    // A while: each read brings another number of bytes.
     while done < buf.len() {
         let n = input.read(&mut buf[done..])?;
         if n == 0 {
