@@ -23,21 +23,16 @@ fn put_caption_line(
     requires { Spoken work.old at.0 end words × ((end ≤ length work.old) × (end ≤ length numbers.old)) }
     ensures { AppendsIn work.old numbers.old end at.0 work.new numbers.new result.0 (caption_line (caption (said words work.old))) }
 {
-    let i = at.0;
-    let x = put_text_in(b"\n^ ", work, numbers, end, at);
-    let k = x.0;
-    if end < k {
-        let y = put_caption(work, numbers, words, end, at);
-        if y.0 == i {
-            return at;
-        }
-        return x;
+    let mark = put_text_in(b"\n^ ", work, numbers, end, at);
+    let from = if end < mark.0 { at } else { mark };
+    let past = put_caption(work, numbers, words, end, from);
+    if past.0 == from.0 {
+        at
+    } else if end < mark.0 {
+        mark
+    } else {
+        past
     }
-    let z = put_caption(work, numbers, words, end, x);
-    if z.0 == k {
-        return at;
-    }
-    z
 }
 
 // Appends the block of the quote with the content from a up to e, which stands before the area.

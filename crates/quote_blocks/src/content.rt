@@ -22,10 +22,11 @@ fn put_line(
     requires { ((a.0 ≤ e.0) × (e.0 ≤ at.0)) × ((e.0 ≤ end) × ((end ≤ length work.old) × (end ≤ length numbers.old))) }
     ensures { AppendsIn work.old numbers.old end at.0 work.new numbers.new result.0 (quoted_line (part a.0 e.0 (cells work.old numbers.old))) }
 {
-    if all_blank(&work[..], &numbers[..], a, e) {
-        return put_sign_in(work, numbers, end, at, b'>');
-    }
+    let blank = all_blank(work, numbers, a, e);
     let x = put_sign_in(work, numbers, end, at, b'>');
+    if blank {
+        return x;
+    }
     let y = put_in(work, numbers, end, x, b' ', RULE_BLANK);
     copy_within(work, numbers, a, e, end, y)
 }
@@ -42,15 +43,14 @@ fn put_more_lines(
     requires { (e.0 ≤ at.0) × ((e.0 ≤ end) × ((end ≤ length work.old) × (end ≤ length numbers.old))) }
     ensures { AppendsIn work.old numbers.old end at.0 work.new numbers.new result.0 (followed (map quoted_line (lines (part a.0 e.0 (cells work.old numbers.old))))) }
 {
-    let last = e.0;
     let mut i = a.0;
     let mut to = at;
-    while i < last {
-        let j = line_end(&work[..], &numbers[..], WorkAt(i), e);
+    // A while: a line's length is the step.
+    while i < e.0 {
+        let j = line_end(work, numbers, WorkAt(i), e);
         let x = put_feed_in(work, numbers, end, to);
         to = put_line(work, numbers, WorkAt(i), j, end, x);
-        let k = j.0;
-        i = k + 1;
+        i = j.0 + 1;
     }
     to
 }
@@ -67,13 +67,10 @@ fn put_lines(
     requires { ((a.0 ≤ e.0) × (e.0 ≤ at.0)) × ((e.0 ≤ end) × ((end ≤ length work.old) × (end ≤ length numbers.old))) }
     ensures { AppendsIn work.old numbers.old end at.0 work.new numbers.new result.0 (quoted_lines (lines (part a.0 e.0 (cells work.old numbers.old)))) }
 {
-    let i = a.0;
-    let last = e.0;
-    if i < last {
-        let j = line_end(&work[..], &numbers[..], a, e);
-        let k = j.0;
+    if a.0 < e.0 {
+        let j = line_end(work, numbers, a, e);
         let x = put_line(work, numbers, a, j, end, at);
-        return put_more_lines(work, numbers, WorkAt(k + 1), e, end, x);
+        return put_more_lines(work, numbers, WorkAt(j.0 + 1), e, end, x);
     }
     put_sign_in(work, numbers, end, at, b'>')
 }
@@ -90,8 +87,8 @@ pub fn put_quoted(
     requires { ((a.0 ≤ e.0) × (e.0 ≤ at.0)) × ((e.0 ≤ end) × ((end ≤ length work.old) × (end ≤ length numbers.old))) }
     ensures { AppendsIn work.old numbers.old end at.0 work.new numbers.new result.0 (feed ∷ feed ∷ quoted_lines (lines (trim (part a.0 e.0 (cells work.old numbers.old))))) }
 {
-    let y = trim_start(&work[..], &numbers[..], a, e);
-    let z = trim_end(&work[..], &numbers[..], y, e);
+    let y = trim_start(work, numbers, a, e);
+    let z = trim_end(work, numbers, y, e);
     let w = put_feed_in(work, numbers, end, at);
     let x = put_feed_in(work, numbers, end, w);
     put_lines(work, numbers, y, z, end, x)

@@ -10,8 +10,8 @@ pub put_more_lines-requires : goal.put_more_lines-requires
 put_more_lines-requires c = let p = c.put_line-x.ensures.appends.grows in
     (omega (arith, c.requires.0.1, p), (c.requires.1.0, (search rules, search rules)))
 
-pub returns-then-i-last : goal.returns-then-i-last
-returns-then-i-last c = lines-first-in c.args.a.0 c.args.e.0 c.requires.0.1 c.line_end-j.result.0 (c.line_end-j.result.0 + 1) c.line_end-j.ensures.1.1 c.put_line-x.ensures c.put_more_lines.ensures
+pub returns-then-a-e : goal.returns-then-a-e
+returns-then-a-e c = lines-first-in c.args.a.0 c.args.e.0 c.requires.0.1 c.line_end-j.result.0 (c.line_end-j.result.0 + 1) c.line_end-j.ensures.1.1 c.put_line-x.ensures c.put_more_lines.ensures
 
 pub returns : goal.returns
 returns c = let p = c.put_sign_in.ensures in

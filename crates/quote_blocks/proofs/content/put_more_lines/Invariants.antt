@@ -11,4 +11,4 @@ invariant-loop-i l = (length l.work ≡ length l.initial.work) × (length l.numb
     × WritingIn l.initial.work l.initial.numbers l.end l.initial.to.0 l.work l.numbers l.to.0 (more_lines (part l.i l.e.0 (cells l.initial.work l.initial.numbers))) (more_lines (part l.initial.i l.e.0 (cells l.initial.work l.initial.numbers)))
 
 abbrev pub decreases-loop-i : goal.decreases-loop-i
-decreases-loop-i l = l.last - l.i
+decreases-loop-i l = l.e.0 - l.i
