@@ -10,6 +10,10 @@ use lib.ListN.{length, drop, get_or, drop_of_length-le, length-drop}
 use lib.Seq.{drop-cons, drop-drop, get_or-drop}
 use lib.Dec.{leb, ltb}
 use borrow.Author.Tests.{leb-true, eq-eqb, ne_eqb, lt-ltb, le-ltb, ltb-true, ltb-false}
+use Rattle.std.specs.Option.{MatchOption, unwrap_or}
+use Rattle.std.proofs.Common.{Option}
+use Rattle.std.specs.List.{AllWithin, HoldsAt}
+use Rattle.std.proofs.lemmas.Iterator.{index_from_first}
 use Rattle.text.specs.Ascii.{inside, small, begins, to_first}
 
 -- ---- ranges
@@ -165,3 +169,9 @@ pub first-plain-at : (p : ℕ → Bool) (s : List ℕ) (i j : ℕ) → i ≤ j �
 first-plain-at p s i j le lt h =
     let f = first-later p s i j le (omega arith) in
     first_plain p s j lt (omega (arith, f))
+
+-- the same as the index that a search has found
+pub first-index : (p : ℕ → Bool) (xs : List ℕ) (r : Option ℕ) → MatchOption r (AllWithin (λ b. p b ≡ false) xs 0 (length xs)) (λ i. (i < length xs) × HoldsAt (λ b. p b ≡ true) xs i × AllWithin (λ b. p b ≡ false) xs 0 i)
+    → to_first p xs ≡ unwrap_or r (length xs)
+unfolding to_first
+first-index p xs r found = index_from_first (to_first p) (λ b. p b ≡ true) (λ b. p b ≡ false) refl (λ x s e. rw e) (λ x s e. rw (e, add-one)) xs r found

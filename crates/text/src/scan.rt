@@ -1,5 +1,5 @@
 // Reading bytes: ranges, tag letters in either ASCII case, the next byte of a kind.
-ghost use Rattle.std.specs.Prelude.{◌≡◌, cond, ◌+◌, ◌≤◌, ◌<◌, length, get_or, drop, eqb, ltb};
+ghost use Rattle.std.specs.Prelude.{◌≡◌, ℕ, Bool, cond, ◌+◌, ◌≤◌, ◌<◌, length, get_or, drop, eqb, ltb};
 ghost use Rattle.text.specs.Ascii.{inside, small, begins, to_first, binary, to_bracket};
 
 use crate::PostAt;
@@ -51,6 +51,19 @@ pub fn begins_at(s: &[u8], at: PostAt, word: &[u8]) -> bool
         k += 1;
     }
     true
+}
+
+// The first place from a place on whose byte a closure takes, or the end.
+pub fn first_from<P: Fn(u8) -> bool>(s: &[u8], at: usize, takes: P) -> usize
+    requires inside { at ≤ length s.now }
+    requires callable { P.IsAlwaysCallable takes }
+    ensures inside { (at ≤ result) × (result ≤ length s.now) }
+    ensures first { (q : ℕ → Bool) → ((b : ℕ) (t : Bool) → P.post takes b t → t ≡ q b) → result ≡ at + to_first q (drop at s.now) }
+{
+    match s[at..].iter().position(|&b| takes(b)) {
+        Some(n) => at + n,
+        None => s.len(),
+    }
 }
 
 // Whether a byte stands among the 16 from i on: one comparison of all 16 where the machine has it.
