@@ -8,12 +8,15 @@
 --   counts ..       the lines before the losses
 --   listing ..      the listing of a converted post: its text, origins, loss records and loss bytes
 --   Adds .. s       the bytes s have been appended to a pair of slices, with no origins
+--   Lists w w' s    the same by a writer w, which is w' then
 -- Assumes nothing.
 use Rattle.std.specs.Prelude.{ℕ, ◌+◌, ◌-◌, cond, List, [], ◌∷◌, ◌++◌, map, length, take, drop, eqb}
 use Rattle.text.specs.Ascii.{ascii, is}
 use Rattle.text.specs.Cells.{cells, sign}
 use Rattle.text.specs.Decimal.{decimal}
 use Rattle.text.specs.Writes.{Appends}
+use Rattle.text.specs.Writers.{Wrote}
+use Rattle.text.specs.declared.writer.Writer.{Writer}
 use Rattle.losses.specs.declared.Loss.{Loss}
 
 -- one byte of it
@@ -56,6 +59,9 @@ listing text os records ws =
 
 abbrev pub Adds : (bs ns : List ℕ) (at : ℕ) (bs' ns' : List ℕ) (at' : ℕ) (s : List ℕ) → Type 0
 Adds bs ns at bs' ns' at' s = Appends (cells bs ns) at (cells bs' ns') at' (map sign s)
+
+abbrev pub Lists : (w w' : Writer) (s : List ℕ) → Type 0
+Lists w w' s = Wrote w w' (map sign s)
 
 -- all of this module, for `unfolding` where a closed text is to be computed
 unfoldable pub computes : Unit {0}

@@ -1,17 +1,12 @@
-use borrow.Author.Rules.{rules}
 use native.Mathlib.Omega.{arith}
-use mathlib.Core.Path.{refl}
-use Rattle.text.proofs.Writing.{start, more as go_on, done}
-use Rattle.listing.proofs.Laws.{escaped-turn, escaped-end}
+use Rattle.listing.specs.Listing.{escaped}
+use Rattle.text.proofs.Writers.{wrote-none}
+use Rattle.listing.proofs.Laws.{lists-escaped}
 use Rattle.listing.proofs.put_escaped.Goals as goal
 
-pub loop-i-init : goal.loop-i-init
-loop-i-init c = (search rules, refl, refl, start _ _ _)
+pub loop-b-init : goal.loop-b-init
+unfolding escaped
+loop-b-init c = wrote-none _
 
-pub loop-i-preserved : goal.loop-i-preserved
-loop-i-preserved c = let l = c.loop-i in
-    (search rules, search rules, search rules, go_on l.invariant.3 (escaped-turn _ l.i (omega arith)) c.put_byte-to.ensures)
-
-pub returns : goal.returns
-returns c = let l = c.loop-i in
-    done l.invariant.3 (escaped-end _ l.i (omega arith))
+pub loop-b-preserved : goal.loop-b-preserved
+loop-b-preserved c = lists-escaped _ _ (omega arith) c.loop-b.invariant c.put_byte.ensures

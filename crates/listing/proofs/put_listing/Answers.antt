@@ -1,12 +1,8 @@
-use native.Mathlib.Omega.{arith}
-use mathlib.Core.Path.{sym}
-use lib.Seq.{length-take-le}
-use Rattle.listing.proofs.Laws.{adds-listing}
+use Rattle.listing.specs.Listing.{counts, listing}
+use Rattle.std.proofs.lemmas.List.{map-append}
+use Rattle.text.proofs.Writers.{wrote-then}
 use Rattle.listing.proofs.put_listing.Goals as goal
 
-pub put_losses-y-requires : goal.put_losses-y-requires
-put_losses-y-requires c = c.requires.1.1
-
 pub returns : goal.returns
-returns c = let n = length-take-le c.args.count c.args.records (omega (arith, c.requires.1.1.0, c.requires.1.1.1)) in
-    adds-listing _ _ _ _ _ _ c.count_copied-n.ensures.0 (sym n) c.put_counts-x.ensures c.put_losses-y.ensures c.put_line.ensures
+unfolding listing counts
+returns c = rw (← c.count_copied.ensures.0) (simp map-append (wrote-then (wrote-then (wrote-then (wrote-then c.put_number.ensures c.put_sizes.ensures) c.put_number-2.ensures) c.put_losses.ensures) c.put_line.ensures))

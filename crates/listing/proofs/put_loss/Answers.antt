@@ -1,5 +1,5 @@
-use Rattle.listing.proofs.Laws.{adds-loss}
+use Rattle.listing.proofs.Laws.{lists-loss}
 use Rattle.listing.proofs.put_loss.Goals as goal
 
 pub returns : goal.returns
-returns c = adds-loss _ _ _ _ c.put_number-x.ensures c.put_number-y.ensures c.put_number-z.ensures c.put_field.ensures
+returns c = lists-loss c.args.x _ _ _ c.min-start.ensures c.min-end.ensures c.put_number.ensures c.put_number-2.ensures c.put_number-3.ensures c.put_line.ensures

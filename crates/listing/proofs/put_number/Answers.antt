@@ -1,5 +1,8 @@
-use Rattle.listing.proofs.Laws.{adds-line}
+use Rattle.listing.specs.Listing.{line}
+use Rattle.std.proofs.lemmas.List.{map-append}
+use Rattle.text.proofs.Writers.{wrote-then}
 use Rattle.listing.proofs.put_number.Goals as goal
 
 pub returns : goal.returns
-returns c = adds-line _ _ c.put_plain-x.ensures c.put_decimal-y.ensures c.put_sign.ensures
+unfolding line
+returns c = simp map-append (wrote-then (wrote-then c.put_plain.ensures c.put_decimal.ensures) c.put_sign.ensures)

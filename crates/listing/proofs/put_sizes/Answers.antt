@@ -1,5 +1,8 @@
-use Rattle.listing.proofs.Laws.{adds-sizes}
+use Rattle.listing.specs.Listing.{sizes}
+use Rattle.std.proofs.lemmas.List.{map-append}
+use Rattle.text.proofs.Writers.{wrote-then}
 use Rattle.listing.proofs.put_sizes.Goals as goal
 
 pub returns : goal.returns
-returns c = adds-sizes _ _ c.put_number-x.ensures c.put_number-y.ensures c.put_number.ensures
+unfolding sizes
+returns c = simp map-append (wrote-then (wrote-then c.put_number.ensures c.put_number-2.ensures) c.put_number-3.ensures)
