@@ -8,16 +8,16 @@
 --   is_seconds s         s is 9 to 11 digits
 --   day_of s             the day of the seconds that s spells
 --   answer s m          what a call for s with an output of m bytes answers
+--   number_of_answer r  document 01's number of an answer, 0 where the call is not turned back (lending's specs/Answer)
 --   output s m          what then stands in the output
 -- Assumes nothing.
-use Rattle.std.specs.Prelude.{ℕ, zero, suc, ◌+◌, ◌-◌, ◌*◌, ◌/◌, ◌%◌, Bool, cond, not, ◌&&◌, ◌||◌, List, [], ◌∷◌, ◌++◌, length, get_or, eqb, leb, ltb}
+use Rattle.std.specs.Prelude.{ℕ, zero, suc, ◌+◌, ◌-◌, ◌*◌, ◌/◌, ◌%◌, Bool, cond, not, ◌&&◌, ◌||◌, List, [], ◌∷◌, ◌++◌, length, get_or, eqb, leb, ltb, Result, Ok, Err}
 use Rattle.text.specs.Ascii.{ascii, all_digits}
 use Rattle.text.specs.Writes.{padded}
-use Rattle.lending.specs.Lent.{number_of}
+pub use Rattle.lending.specs.Answer.{number_of_answer}
+use Rattle.lending.specs.declared.lent.Refusal.{Refusal}
 use Rattle.lending.specs.declared.lent.Refusal.TheVariants.{SizesWrong, NotSeconds}
 use Rattle.day.specs.declared.Date.{Date}
-use Rattle.day.specs.declared.Dated.{Dated}
-use Rattle.day.specs.declared.Dated.TheVariants.{Done, Refused}
 
 -- ---- the calendar
 
@@ -68,18 +68,13 @@ unfoldable pub day_of : List ℕ → List ℕ
 day_of s = iso (date_after (number s / 86400))
 
 -- the first refusal that applies
-unfoldable pub answer : List ℕ → ℕ → Dated
-answer s m = cond (ltb m 10) (Refused SizesWrong) (cond (is_seconds s) Done (Refused NotSeconds))
-
--- document 01's number of an answer, 0 where the call is not turned back
-abbrev pub number_of_answer : Dated → ℕ
-number_of_answer Done = 0
-number_of_answer (Refused r) = number_of r
+unfoldable pub answer : List ℕ → ℕ → Result (Unit {0}) Refusal
+answer s m = cond (ltb m 10) (Err SizesWrong) (cond (is_seconds s) (Ok tt) (Err NotSeconds))
 
 -- what an answer leaves in an output of m bytes
-abbrev pub output_by : Dated → List ℕ → ℕ → List ℕ
-output_by Done s m = padded m (day_of s)
-output_by (Refused r) s m = padded m []
+abbrev pub output_by : Result (Unit {0}) Refusal → List ℕ → ℕ → List ℕ
+output_by (Ok done) s m = padded m (day_of s)
+output_by (Err refusal) s m = padded m []
 
 unfoldable pub output : List ℕ → ℕ → List ℕ
 output s m = output_by (answer s m) s m

@@ -1,29 +1,28 @@
 -- Document 01's days (99999999999 stands in proofs/DayNumberLaws: it is a million days off), its refusals, and the leap rule at the
 -- ends of centuries. Assumes nothing.
-use Rattle.std.specs.Prelude.{◌≡◌, refl, true, false, [], ◌∷◌, ◌++◌}
+use Rattle.std.specs.Prelude.{◌≡◌, refl, true, false, [], ◌∷◌, ◌++◌, Ok, Err}
 use Rattle.text.specs.Ascii.{ascii, computes as text_computes}
 use Rattle.text.specs.Writes.{padded}
 use Rattle.lending.specs.declared.lent.Refusal.TheVariants.{NotSeconds}
 use Rattle.day.specs.Day.{leap, day_of, answer, output, number_of_answer, computes}
-use Rattle.day.specs.declared.Dated.TheVariants.{Done, Refused}
 
 starred : day_of (ascii "951782400") ≡ ascii "2000-02-29"
 unfolding computes text_computes
 starred = refl
 
-starred-call : (answer (ascii "951782400") 12 ≡ Done) × (output (ascii "951782400") 12 ≡ ascii "2000-02-29" ++ (0 ∷ 0 ∷ []))
+starred-call : (answer (ascii "951782400") 12 ≡ Ok tt) × (output (ascii "951782400") 12 ≡ ascii "2000-02-29" ++ (0 ∷ 0 ∷ []))
 unfolding computes text_computes padded
 starred-call = (refl, refl)
 
-eight-digits : answer (ascii "12345678") 10 ≡ Refused NotSeconds
+eight-digits : answer (ascii "12345678") 10 ≡ Err NotSeconds
 unfolding computes text_computes
 eight-digits = refl
 
-twelve-digits : answer (ascii "999999999999") 10 ≡ Refused NotSeconds
+twelve-digits : answer (ascii "999999999999") 10 ≡ Err NotSeconds
 unfolding computes text_computes
 twelve-digits = refl
 
-not-digits : answer (ascii "12345678x") 10 ≡ Refused NotSeconds
+not-digits : answer (ascii "12345678x") 10 ≡ Err NotSeconds
 unfolding computes text_computes
 not-digits = refl
 

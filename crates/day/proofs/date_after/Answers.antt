@@ -21,10 +21,10 @@ pub returns-then-month_parameter-lt10 : goal.returns-then-month_parameter-lt10
 returns-then-month_parameter-lt10 c = let n = c.args.n in
     sym ((civil n).is ∙ rw (lt-ltb (month_parameter n) 10 c.if-month_parameter-lt10.true))
 
-pub overflow_add-result-2 : goal.overflow_add-result-2
-overflow_add-result-2 c = let n = c.args.n in
+pub overflow_add-result-else-month_parameter-lt10 : goal.overflow_add-result-else-month_parameter-lt10
+overflow_add-result-else-month_parameter-lt10 c = let n = c.args.n in
     record { fits = fits_next n (year_of_era n) c.requires (civil n).below-400 }
 
-pub returns : goal.returns
-returns c = let n = c.args.n in
+pub returns-else-month_parameter-lt10 : goal.returns-else-month_parameter-lt10
+returns-else-month_parameter-lt10 c = let n = c.args.n in
     sym ((civil n).is ∙ rw (le-ltb (month_parameter n) 10 c.if-month_parameter-lt10.false))
