@@ -22,7 +22,9 @@ use Rattle.list_blocks.specs.Blocks.{between}
 use Rattle.list_blocks.specs.Lists.{Open, State, nothing, started, closed, step, finish, run, lists, held, finish_need, run_need, lists_need}
 use Rattle.list_steps.specs.Standing.{outers, contents, frames, Stands, Steps, Ready, close_inner, kept, step_by, rest_with, take_by, pushed, Running, Written, Passes, Ends, lent}
 use Rattle.list_steps.specs.declared.pass.Passed.{Passed}
-use Rattle.list_steps.specs.declared.pass.Passed.TheVariants.{Done, Full, TooDeep}
+use Rattle.lending.specs.declared.lent.Refusal.{Refusal}
+use Rattle.lending.specs.declared.lent.Refusal.TheVariants.{TooDeep, NoSpace}
+use Rattle.std.specs.Prelude.{Result, Ok, Err}
 use Rattle.list_steps.proofs.Needs.{tokens-skip, outers-held, need-least}
 use Rattle.list_steps.proofs.Texts.{tokens-text, tail-bytes, more-run, more-need, take-with, rest-size, rest-least}
 use Rattle.list_steps.proofs.Standings.{stands-end, stands-text}
@@ -407,12 +409,14 @@ before-length bs ns base end h hb hn = length-take-le base (cells bs ns) (cells-
 -- ---- what the pass answers
 
 -- it is no longer taken
-pub passes-stopped : (x : List Cell) (base m : ℕ) (bs ns : List ℕ) (r : Passed) (t : Bool) → too_deep x ≡ t → m < lists_need x → r ≡ cond t TooDeep Full → Passes x base m bs ns r
-passes-stopped x base m bs ns r true e over q = rw q e
-passes-stopped x base m bs ns r false e over q = rw q (e, over)
+pub passes-stopped : (x : List Cell) (m : ℕ) (r : Refusal) (t : Bool) → too_deep x ≡ t → (t ≡ false → m < lists_need x) → r ≡ cond t TooDeep NoSpace
+    → (r ≡ cond (too_deep x) TooDeep NoSpace) × (too_deep x ≡ false → m < lists_need x)
+passes-stopped x m r t e over q = (rw e q, λ f. over (sym e ∙ f))
+
+pub passes-deep : (x : List Cell) (m : ℕ) → too_deep x ≡ true → (TooDeep ≡ cond (too_deep x) TooDeep NoSpace) × (too_deep x ≡ false → m < lists_need x)
+passes-deep x m e = passes-stopped x m TooDeep true e (λ f. absurd (cc)) refl
 
 -- all is read
-pub passes-ends : (x : List Cell) (base m : ℕ) (bs ns : List ℕ) (r : Passed) → too_deep x ≡ false → Ends x base m bs ns r → Passes x base m bs ns r
-passes-ends x base m bs ns (Done r need) e h = (e, h)
-passes-ends x base m bs ns Full e h = (e, h)
-passes-ends x base m bs ns TooDeep e h = absurd h
+pub passes-ends : (x : List Cell) (base m : ℕ) (bs ns : List ℕ) (r : Result Passed Refusal) → too_deep x ≡ false → Ends x base m bs ns r → Passes x base m bs ns r
+passes-ends x base m bs ns (Ok p) e h = (e, h)
+passes-ends x base m bs ns (Err r) e h = passes-stopped x m r false e (λ _. h.1) h.0

@@ -10,11 +10,13 @@
 --   Passes ..      what the whole pass answers
 --   Stays ..       what stands outside of the areas stays
 -- Assumes nothing.
-use Rattle.std.specs.Prelude.{◌≡◌, ℕ, ◌+◌, ◌-◌, ◌%◌, ◌≤◌, ◌<◌, max, Bool, true, false, cond, not, ◌&&◌, ◌||◌, List, [], ◌∷◌, ◌++◌, length, take, drop, get_or, replicate, eqb, leb, ltb}
+use Rattle.std.specs.Prelude.{◌≡◌, ℕ, ◌+◌, ◌-◌, ◌%◌, ◌≤◌, ◌<◌, max, Bool, true, false, cond, not, ◌&&◌, ◌||◌, List, [], ◌∷◌, ◌++◌, length, take, drop, get_or, replicate, eqb, leb, ltb, Result, Ok, Err}
 use Rattle.text.specs.Ascii.{is_empty}
 use Rattle.text.specs.Bounds.{number_most}
 use Rattle.text.specs.Cells.{Cell, cells, part, feed}
 use Rattle.text.specs.Writes.{Holds}
+use Rattle.lending.specs.declared.lent.Refusal.{Refusal}
+use Rattle.lending.specs.declared.lent.Refusal.TheVariants.{TooDeep, NoSpace}
 use Rattle.list_blocks.specs.declared.tag.Tag.{Tag}
 use Rattle.list_blocks.specs.declared.tag.Tag.TheVariants.{Opener, Item, Closer, Plain}
 use Rattle.list_blocks.specs.Blocks.{block, between, parts_in, Rises}
@@ -23,7 +25,6 @@ use Rattle.list_blocks.specs.Lists.{Open, State, ends_in_feed, close, started, c
 use Rattle.list_steps.specs.declared.close.Areas.{Areas}
 use Rattle.list_steps.specs.declared.close.Machine.{Machine}
 use Rattle.list_steps.specs.declared.pass.Passed.{Passed}
-use Rattle.list_steps.specs.declared.pass.Passed.TheVariants.{Done, Full, TooDeep}
 
 -- parts one behind another
 unfoldable pub strung : List (List Cell) → List Cell
@@ -176,16 +177,14 @@ pub record Written (x : List Cell) (base m : ℕ) (bs ns : List ℕ) (r need : �
   pub text : part base r (cells bs ns) ≡ lists x
 
 -- what the pass on x answers: refusal 5 comes before refusal 6
-abbrev pub Passes : (x : List Cell) (base m : ℕ) (bs ns : List ℕ) → Passed → Type 0
-Passes x base m bs ns (Done r need) = (too_deep x ≡ false) × Written x base m bs ns r.0 need
-Passes x base m bs ns Full = (too_deep x ≡ false) × (m < lists_need x)
-Passes x base m bs ns TooDeep = too_deep x ≡ true
+abbrev pub Passes : (x : List Cell) (base m : ℕ) (bs ns : List ℕ) → Result Passed Refusal → Type 0
+Passes x base m bs ns (Ok p) = (too_deep x ≡ false) × Written x base m bs ns p.end.0 p.need
+Passes x base m bs ns (Err r) = (r ≡ cond (too_deep x) TooDeep NoSpace) × (too_deep x ≡ false → m < lists_need x)
 
 -- where all is read
-abbrev pub Ends : (x : List Cell) (base m : ℕ) (bs ns : List ℕ) → Passed → Type 0
-Ends x base m bs ns (Done r need) = Written x base m bs ns r.0 need
-Ends x base m bs ns Full = m < lists_need x
-Ends x base m bs ns TooDeep = ⊥
+abbrev pub Ends : (x : List Cell) (base m : ℕ) (bs ns : List ℕ) → Result Passed Refusal → Type 0
+Ends x base m bs ns (Ok p) = Written x base m bs ns p.end.0 p.need
+Ends x base m bs ns (Err r) = (r ≡ NoSpace) × (m < lists_need x)
 
 -- ---- in code
 
@@ -236,12 +235,12 @@ abbrev pub RunningIn : (x before : List Cell) → Areas → (seen : ℕ) (bs ns 
 RunningIn x before w seen bs ns st ks = Running x before bs ns w.end.0 w.table.0 st.at.0 st.top.0 st.first.0 st.second seen ks
 
 -- closing what is open
-abbrev pub Finishes : Areas → (seen : ℕ) (bs ns : List ℕ) → Machine → (bs' ns' : List ℕ) → Passed → Type 0
+abbrev pub Finishes : Areas → (seen : ℕ) (bs ns : List ℕ) → Machine → (bs' ns' : List ℕ) → Result Passed Refusal → Type 0
 Finishes w seen bs ns st bs' ns' r =
     ((x before : List Cell) → length before ≡ w.base.0 → RunningIn x before w seen bs ns st [] → Ends x w.base.0 (room_of w) bs' ns' r) × StaysIn w bs ns bs' ns'
 
 -- what the pass on the cells from a up to e promises
-abbrev pub PassedIn : (a e : ℕ) → Areas → (bs ns bs' ns' : List ℕ) → Passed → Type 0
+abbrev pub PassedIn : (a e : ℕ) → Areas → (bs ns bs' ns' : List ℕ) → Result Passed Refusal → Type 0
 PassedIn a e w bs ns bs' ns' r = Passes (part a e (cells bs ns)) w.base.0 (room_of w) bs' ns' r × StaysIn w bs ns bs' ns'
 
 -- the cells that a pair of slices has from a up to e

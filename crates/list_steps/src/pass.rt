@@ -4,24 +4,23 @@ ghost use Rattle.text.specs.Ascii.{is, to_first};
 ghost use Rattle.text.specs.Bounds.{deep_most, number_most};
 ghost use Rattle.text.specs.Cells.{cells};
 ghost use Rattle.list_blocks.specs.Tags.{tokens, deeper};
-ghost use Rattle.list_steps.specs.declared.pass.Passed.TheVariants.{Full, TooDeep};
+ghost use Rattle.lending.specs.declared.lent.Refusal.TheVariants.{TooDeep, NoSpace};
 ghost use Rattle.list_steps.specs.Standing.{rest_with, room_of, lent, Spaced, PassRoom, PassedIn, ReadyIn, Finishes};
 
 use crate::close::{Areas, Machine, close_list};
 use crate::depth::depth_after;
 use crate::step::step;
+use lending::lent::Refusal;
 use list_blocks::tag::{Tag, tag_at};
 use text::bounds::DEEP_MOST;
 use text::scan::next_byte;
-use text::{PostAt, WorkAt, greater};
+use text::{PostAt, WorkAt};
 
-// Where the text ends, and its need; or why there is none: its need is more than the room of the contents, or a list opener is met while as many
-// lists are open as may be.
+// Where the text ends, and its need.
 #[derive(Clone, Copy)]
-pub enum Passed {
-    Done(WorkAt, usize),
-    Full,
-    TooDeep,
+pub struct Passed {
+    pub end: WorkAt,
+    pub need: usize,
 }
 
 // Closes all open lists, innermost first, where at most `seen` cells stood in the contents before.
@@ -31,7 +30,7 @@ fn finish_lists(
     areas: Areas,
     work: &mut [u8],
     numbers: &mut [u32],
-) -> Passed
+) -> Result<Passed, Refusal>
     requires { ReadyIn work.old numbers.old areas from × (Spaced areas (length work.old) (length numbers.old) × (seen ≤ room_of areas)) }
     ensures { Finishes areas seen work.old numbers.old from work.new numbers.new result }
 {
@@ -42,17 +41,18 @@ fn finish_lists(
     let mut most = seen;
     let mut top = from.top.0;
     while table < top {
-        most = greater(most, st.at.0 - base);
+        most = most.max(st.at.0 - base);
         st = close_list(st, areas, work, numbers);
         let at = st.at.0;
         if end < at {
-            return Passed::Full;
+            return Err(Refusal::NoSpace);
         }
         top = st.top.0;
     }
-    let to = st.at;
-    let need = greater(most, to.0 - base);
-    Passed::Done(to, need)
+    Ok(Passed {
+        end: st.at,
+        need: most.max(st.at.0 - base),
+    })
 }
 
 // How many cells of a text stand behind its first and before the next `[`.
@@ -98,20 +98,27 @@ fn too_deep(src: &[u8], from: &[u32], open: usize) -> bool
 }
 
 // Why the cells from a up to e, where `open` lists are open before them, are no longer taken: refusal 5 comes before refusal 6.
-fn stopped(a: WorkAt, e: WorkAt, work: &[u8], numbers: &[u32], open: usize) -> Passed
+fn stopped(a: WorkAt, e: WorkAt, work: &[u8], numbers: &[u32], open: usize) -> Refusal
     requires { ((a.0 ≤ e.0) × («open» ≤ deep_most)) × ((e.0 ≤ length work.now) × ((e.0 ≤ length numbers.now) × (length numbers.now ≤ number_most))) }
-    ensures { result ≡ cond (deeper «open» (tokens 0 (lent a.0 e.0 work.now numbers.now))) TooDeep Full }
+    ensures { result ≡ cond (deeper «open» (tokens 0 (lent a.0 e.0 work.now numbers.now))) TooDeep NoSpace }
 {
     let i = a.0;
     let j = e.0;
     if too_deep(&work[i..j], &numbers[i..j], open) {
-        return Passed::TooDeep;
+        return Refusal::TooDeep;
     }
-    Passed::Full
+    Refusal::NoSpace
 }
 
 // The list pass on the cells from a up to e of the pair (work, numbers), which stand before the areas. The text stands at the front of the contents.
-pub fn list_pass(a: WorkAt, e: WorkAt, areas: Areas, work: &mut [u8], numbers: &mut [u32]) -> Passed
+// Refused where its need is more than the room of the contents, and, first, where a list opener is met while as many lists are open as may be.
+pub fn list_pass(
+    a: WorkAt,
+    e: WorkAt,
+    areas: Areas,
+    work: &mut [u8],
+    numbers: &mut [u32],
+) -> Result<Passed, Refusal>
     requires { PassRoom a.0 e.0 areas work.old numbers.old }
     ensures { PassedIn a.0 e.0 areas work.old numbers.old work.new numbers.new result }
 {
@@ -134,13 +141,13 @@ pub fn list_pass(a: WorkAt, e: WorkAt, areas: Areas, work: &mut [u8], numbers: &
         let n = rest_of(tag, &work[i..last]);
         let deep = depth_after(tag, depth);
         if DEEP_MOST < deep {
-            return Passed::TooDeep;
+            return Err(Refusal::TooDeep);
         }
-        seen = greater(seen, st.at.0 - base);
+        seen = seen.max(st.at.0 - base);
         st = step(tag, n, WorkAt(i), st, areas, work, numbers);
         let at = st.at.0;
         if end < at {
-            return stopped(WorkAt(i), e, work, numbers, depth);
+            return Err(stopped(WorkAt(i), e, work, numbers, depth));
         }
         depth = deep;
         i = i + n + 1;

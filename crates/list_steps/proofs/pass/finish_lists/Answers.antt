@@ -21,7 +21,7 @@ pub returns-then-end-at : goal.returns-then-end-at
 returns-then-end-at c = let v = c.loop-top.invariant in
     let r = v.3 in
     let q = c.close_list-st.ensures in
-    (λ x before lb w. finish-over x before _ _ _ _ _ _ _ _ _ _ (v.4 x before lb w) lb r.fits r.within.0 r.within.1.0 (omega (arith, v.1, c.loop-top-test.true)) _ _ _ _ _ _ q.0.0 (omega (arith, r.within.0)) (omega (arith, r.within.1.0)) c.if-end-at.true, stays_then v.5 q.0.2)
+    (λ x before lb w. (refl, finish-over x before _ _ _ _ _ _ _ _ _ _ (v.4 x before lb w) lb r.fits r.within.0 r.within.1.0 (omega (arith, v.1, c.loop-top-test.true)) _ _ _ _ _ _ q.0.0 (omega (arith, r.within.0)) (omega (arith, r.within.1.0)) c.if-end-at.true), stays_then v.5 q.0.2)
 
 pub loop-top-smaller : goal.loop-top-smaller
 loop-top-smaller c = omega (arith, c.loop-top.invariant.1, c.close_list-st.ensures.1)
@@ -30,7 +30,7 @@ pub loop-top-preserved : goal.loop-top-preserved
 loop-top-preserved c = let v = c.loop-top.invariant in
     let r = v.3 in
     let q = c.close_list-st.ensures in
-    let g = c.greater-most.ensures in (
+    let g = c.max-most.ensures in (
       (search rules, search rules),
       refl,
       omega (arith, g, v.2, r.fits),
@@ -39,10 +39,10 @@ loop-top-preserved c = let v = c.loop-top.invariant in
       stays_then v.5 q.0.2,
     )
 
-pub overflow_sub-to : goal.overflow_sub-to
-overflow_sub-to c = let b = ready-base _ _ _ _ _ _ _ _ _ c.loop-top.invariant.3 in omega (arith, b)
+pub overflow_sub-st-2 : goal.overflow_sub-st-2
+overflow_sub-st-2 c = let b = ready-base _ _ _ _ _ _ _ _ _ c.loop-top.invariant.3 in omega (arith, b)
 
 pub returns : goal.returns
 returns c = let v = c.loop-top.invariant in
     let r = v.3 in
-    (λ x before lb w. let y = v.4 x before lb w in ends-done x before _ _ _ _ _ _ _ _ _ _ y (none_open _ _ _ _ _ _ _ _ _ _ y.holds (omega (arith, v.1, c.loop-top-test.false))) lb r.fits r.within.0 r.within.1.0 v.2 _ c.greater-need.ensures, v.5)
+    (λ x before lb w. let y = v.4 x before lb w in ends-done x before _ _ _ _ _ _ _ _ _ _ y (none_open _ _ _ _ _ _ _ _ _ _ y.holds (omega (arith, v.1, c.loop-top-test.false))) lb r.fits r.within.0 r.within.1.0 v.2 _ c.max.ensures, v.5)

@@ -6,7 +6,7 @@ use lib.ListN.{take}
 use Rattle.text.specs.Cells.{Cell, cells, part}
 use Rattle.list_blocks.specs.Tags.{tokens, deeper}
 use Rattle.list_steps.proofs.Depths.{deep-start, deep-over, deep-goes, deep-end}
-use Rattle.list_steps.proofs.Runs.{base-within, room, part-before, before-length, running-start, running-end, running-ready, turn-size, turn-reads, turn-left, turn-pushes, turn-goes, turn-over, passes-stopped, passes-ends}
+use Rattle.list_steps.proofs.Runs.{base-within, room, part-before, before-length, running-start, running-end, running-ready, turn-size, turn-reads, turn-left, turn-pushes, turn-goes, turn-over, passes-stopped, passes-deep, passes-ends}
 use Rattle.list_steps.proofs.Outside.{stays-none, stays_then, stays-cells}
 use Rattle.list_steps.proofs.pass.list_pass.Goals as goal
 
@@ -35,7 +35,7 @@ returns-then-deep-gt-DEEP_MOST c = let p = c.requires in
     let k = room x.areas.base.0 x.areas.end.0 x.areas.table.0 _ _ _ z.0.0 z.0.1 z.1.0 p.1.1 in
     let lb = before-length x.work.now x.numbers.now x.areas.base.0 x.areas.end.0 z.0.0 k.0 k.1.0 in
     let y = turn-reads _ _ _ _ x.areas.base.0 _ _ _ _ _ _ _ l.i _ v.5 lb v.2 (omega (arith, v.0.0, k.0)) (omega (arith, v.0.1, k.1.0)) c.loop-i-test.true p.0.1 _ c.tag_at-tag.ensures _ c.rest_of-n.ensures in
-    (v.7 ∙ deep-over (part l.i x.e.0 (take x.areas.base.0 (cells x.work.now x.numbers.now))) _ y.0 y.1.0 v.6 (omega (arith, c.if-deep-gt-DEEP_MOST.true, c.depth_after-deep.ensures)), v.8)
+    (passes-deep (part x.a.0 x.e.0 (cells x.work.now x.numbers.now)) _ (v.7 ∙ deep-over (part l.i x.e.0 (take x.areas.base.0 (cells x.work.now x.numbers.now))) _ y.0 y.1.0 v.6 (omega (arith, c.if-deep-gt-DEEP_MOST.true, c.depth_after-deep.ensures))), v.8)
 
 pub overflow_sub-st : goal.overflow_sub-st
 overflow_sub-st c = let p = c.requires in
@@ -83,8 +83,8 @@ returns-then-end-at c = let p = c.requires in
     let lb = before-length x.work.now x.numbers.now x.areas.base.0 x.areas.end.0 z.0.0 k.0 k.1.0 in
     let q = c.step-st.ensures in
     let d = turn-left _ _ _ _ x.areas.base.0 _ _ _ _ _ _ _ l.i _ v.5 lb v.2 (omega (arith, v.0.0, k.0)) (omega (arith, v.0.1, k.1.0)) c.loop-i-test.true p.0.1 _ c.tag_at-tag.ensures _ c.rest_of-n.ensures _ _ (stays-cells q.2) (omega (arith, v.0.0, c.step-st.auto.work, k.0)) (omega (arith, v.0.1, c.step-st.auto.numbers, k.1.0)) in (
-      passes-stopped (part x.a.0 x.e.0 (cells x.work.now x.numbers.now)) _ _ _ _ _ _ (v.7 ∙ sym (ap (λ (w : List Cell). deeper l.depth (tokens 0 w)) d))
-          (turn-over _ _ _ _ x.areas.base.0 _ _ _ _ _ _ _ l.i _ v.5 lb v.2 (omega (arith, v.0.0, k.0)) (omega (arith, v.0.1, k.1.0)) c.loop-i-test.true p.0.1 _ c.tag_at-tag.ensures _ c.rest_of-n.ensures _ _ _ _ _ _ q.0 (omega (arith, v.0.0, c.step-st.auto.work, k.0)) (omega (arith, v.0.1, c.step-st.auto.numbers, k.1.0)) c.if-end-at.true)
+      passes-stopped (part x.a.0 x.e.0 (cells x.work.now x.numbers.now)) _ _ _ (v.7 ∙ sym (ap (λ (w : List Cell). deeper l.depth (tokens 0 w)) d))
+          (λ _. turn-over _ _ _ _ x.areas.base.0 _ _ _ _ _ _ _ l.i _ v.5 lb v.2 (omega (arith, v.0.0, k.0)) (omega (arith, v.0.1, k.1.0)) c.loop-i-test.true p.0.1 _ c.tag_at-tag.ensures _ c.rest_of-n.ensures _ _ _ _ _ _ q.0 (omega (arith, v.0.0, c.step-st.auto.work, k.0)) (omega (arith, v.0.1, c.step-st.auto.numbers, k.1.0)) c.if-end-at.true)
           c.stopped.ensures,
       stays_then v.8 q.2,
     )
@@ -134,7 +134,7 @@ loop-i-preserved c = let p = c.requires in
     let t = turn-pushes _ _ _ _ x.areas.base.0 _ _ _ _ _ _ _ l.i _ v.5 lb v.2 (omega (arith, v.0.0, k.0)) (omega (arith, v.0.1, k.1.0)) c.loop-i-test.true p.0.1 _ c.tag_at-tag.ensures _ c.rest_of-n.ensures in
     let y = turn-reads _ _ _ _ x.areas.base.0 _ _ _ _ _ _ _ l.i _ v.5 lb v.2 (omega (arith, v.0.0, k.0)) (omega (arith, v.0.1, k.1.0)) c.loop-i-test.true p.0.1 _ c.tag_at-tag.ensures _ c.rest_of-n.ensures in
     let d = c.depth_after-deep.ensures in
-    let g = c.greater-seen.ensures in
+    let g = c.max-seen.ensures in
     let q = c.step-st.ensures in (
       (search rules, search rules),
       omega (arith, s.0),
