@@ -10,7 +10,7 @@
 --   Passes ..      what the whole pass answers
 --   Stays ..       what stands outside of the areas stays
 -- Assumes nothing.
-use Rattle.std.specs.Prelude.{◌≡◌, ℕ, ◌+◌, ◌-◌, ◌%◌, ◌≤◌, ◌<◌, max, Bool, true, false, cond, not, ◌&&◌, ◌||◌, List, [], ◌∷◌, ◌++◌, length, take, drop, get_or, replicate, eqb, leb, ltb, Result, Ok, Err}
+use Rattle.std.specs.Prelude.{◌≡◌, ℕ, ◌+◌, ◌-◌, ◌%◌, ◌≤◌, ◌<◌, max, Bool, false, cond, not, ◌&&◌, ◌||◌, List, [], ◌∷◌, ◌++◌, length, take, drop, get_or, replicate, eqb, leb, ltb, Result, Ok, Err}
 use Rattle.text.specs.Ascii.{is_empty}
 use Rattle.text.specs.Bounds.{number_most}
 use Rattle.text.specs.Cells.{Cell, cells, part, feed}
