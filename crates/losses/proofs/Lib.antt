@@ -1,1 +1,1 @@
-pub mod Upto
+pub mod Filling

@@ -3,9 +3,9 @@
 --   records_of ns         the records of the numbers ns, five a record
 --   records_lent n ns     n lent records that hold those of ns and then zero records
 -- In code:
---   loss_at ns count i    record i, where the first `count` are from ns
+--   record_at ns k        the record of the five numbers from place k on
 -- Assumes nothing.
-use Rattle.std.specs.Prelude.{ℕ, ◌+◌, ◌-◌, ◌*◌, cond, List, [], ◌∷◌, ◌++◌, length, replicate, get_or, ltb}
+use Rattle.std.specs.Prelude.{ℕ, ◌+◌, ◌-◌, List, [], ◌∷◌, ◌++◌, length, replicate, get_or}
 use Rattle.losses.specs.declared.Loss.{Loss}
 
 abbrev pub no_loss : Loss
@@ -26,9 +26,6 @@ records_lent n ns = records_of ns ++ replicate (n - length (records_of ns)) no_l
 
 abbrev pub record_at : List ℕ → ℕ → Loss
 record_at ns k = record { quote = get_or ns k 0; line = get_or ns (k + 1) 0; unnamed = get_or ns (k + 2) 0; start = get_or ns (k + 3) 0; length = get_or ns (k + 4) 0 }
-
-abbrev pub loss_at : List ℕ → (count i : ℕ) → Loss
-loss_at ns count i = cond (ltb i count) (record_at ns (5 * i)) no_loss
 
 -- all of this module, for `unfolding` where a closed call is to be computed
 unfoldable pub computes : Unit {0}

@@ -3,12 +3,12 @@
 #![tactic(auto)]
 
 ghost use Rattle.std.specs.Prelude.{◌≡◌, ◌*◌, ◌≤◌, length, take};
-ghost use Rattle.losses.specs.Records.{loss_at, records_lent};
+ghost use Rattle.losses.specs.Records.{record_at, records_lent};
 
 // A loss: the number of its quote from 1, the line, unnamed 0 or 1, and where its field stands in the loss bytes. Quote and line are 0 in a
 // call for an attribution alone.
 #[repr(C)]
-#[derive(Clone, Copy)]
+#[derive(Clone, Copy, Debug, Default, PartialEq, Eq)]
 pub struct Loss {
     pub quote: u32,
     pub line: u32,
@@ -17,27 +17,16 @@ pub struct Loss {
     pub length: u32,
 }
 
-// Record i of `count` from their numbers; a record that is all zero from `count` on.
-fn loss_at(numbers: &[u32], count: usize, i: usize) -> Loss
-    requires { 5 * count ≤ length numbers.now }
-    ensures { result ≡ loss_at numbers.now count i }
-{
-    if i < count {
-        let k = 5 * i;
+impl From<[u32; 5]> for Loss {
+    ghost from_gives = { λ numbers loss. loss ≡ record_at numbers 0 };
+
+    fn from([quote, line, unnamed, start, length]: [u32; 5]) -> Loss {
         Loss {
-            quote: numbers[k],
-            line: numbers[k + 1],
-            unnamed: numbers[k + 2],
-            start: numbers[k + 3],
-            length: numbers[k + 4],
-        }
-    } else {
-        Loss {
-            quote: 0,
-            line: 0,
-            unnamed: 0,
-            start: 0,
-            length: 0,
+            quote,
+            line,
+            unnamed,
+            start,
+            length,
         }
     }
 }
@@ -47,9 +36,9 @@ pub fn fill(records: &mut [Loss], numbers: &[u32], count: usize)
     requires { (5 * count ≤ length numbers.now) × (count ≤ length records.old) }
     ensures { records.new ≡ records_lent (length records.old) (take (5 * count) numbers.now) }
 {
-    let mut i: usize = 0;
-    while i < records.len() {
-        records[i] = loss_at(numbers, count, i);
-        i += 1;
+    let (fives, _) = numbers.as_chunks::<5>();
+    for i in 0..count {
+        records[i] = Loss::from(fives[i]);
     }
+    records[count..].fill(Loss::default());
 }

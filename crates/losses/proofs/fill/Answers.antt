@@ -1,23 +1,21 @@
-use Rattle.std.proofs.Common.{◌≡◌, refl, ap, ◌∙◌, ℕ, length, arith, add-one}
-use Rattle.losses.specs.declared.Loss.{Loss}
-use Rattle.losses.specs.Records.{loss_at}
-use Rattle.losses.proofs.Upto.{upto, length-upto, upto-records}
+use Rattle.std.proofs.Common.{rules, refl, arith, ◌∙◌, ◌≡◌, ◌/◌, length}
+use Rattle.losses.specs.Records.{records_of, no_loss}
+use Rattle.losses.proofs.Filling.{chunk-record, filled-turn, filled-end}
 use Rattle.losses.proofs.fill.Goals as goal
 
 pub loop-i-init : goal.loop-i-init
-loop-i-init c = (omega arith, refl)
+unfolding records_of
+loop-i-init c = refl
 
 pub loop-i-preserved : goal.loop-i-preserved
-loop-i-preserved c =
-    let l = c.loop-i in
-    let f : ℕ → Loss = loss_at c.args.numbers.now c.args.count in
-    let n = ap length l.invariant.1 ∙ length-upto f c.args.records.now l.i in
-    (omega (arith, n), rw (add-one, l.invariant.1, c.loss_at.ensures) refl)
+loop-i-preserved c = let l = c.loop-i in
+    let ns = c.args.numbers.now in
+    let five = rw c.as_chunks.ensures.front at c.from.ensures ∙ chunk-record ns (length ns / 5) l.i (omega arith) in
+    rw l.invariant (filled-turn ns c.args.records.now l.i c.from.result (omega arith) (omega arith) five)
 
 pub returns : goal.returns
-returns c =
-    let l = c.loop-i in
-    let f : ℕ → Loss = loss_at c.args.numbers.now c.args.count in
-    let n = ap length l.invariant.1 ∙ length-upto f c.args.records.now l.i in
-    let e : l.i ≡ length c.args.records.now = omega (arith, n) in
-    l.invariant.1 ∙ ap (upto f c.args.records.now) e ∙ upto-records c.args.numbers.now c.args.count c.args.records.now c.requires.0 c.requires.1
+returns c = let l = c.loop-i in
+    let n : l.i ≡ c.args.count = omega arith in
+    let d : c.default.result ≡ no_loss = search rules in
+    filled-end c.args.numbers.now c.args.records.now l.records c.fill.new.self c.args.count (length c.args.records.now) c.default.result
+    c.requires.0 c.requires.1 l.auto.records (rw n at l.invariant) d c.fill.ensures.after

@@ -1,10 +1,6 @@
-use Rattle.std.proofs.Common.{length, ◌-◌, ◌≡◌, ◌≤◌}
-use Rattle.losses.specs.Records.{loss_at}
-use Rattle.losses.proofs.Upto.{upto}
+use Rattle.std.proofs.Common.{◌≡◌, ◌*◌, ◌++◌, take, drop}
+use Rattle.losses.specs.Records.{records_of}
 use Rattle.losses.proofs.fill.Given as goal
 
 abbrev pub invariant-loop-i : goal.invariant-loop-i
-invariant-loop-i l = (l.i ≤ length l.initial.records) × (l.records ≡ upto (loss_at l.numbers l.count) l.initial.records l.i)
-
-abbrev pub decreases-loop-i : goal.decreases-loop-i
-decreases-loop-i l = length l.initial.records - l.i
+invariant-loop-i l = l.records ≡ records_of (take (5 * l.i) l.numbers) ++ drop l.i l.initial.records
