@@ -147,11 +147,6 @@ pub opener-found : {s : List ℕ} {a q p b k : ℕ} → Untagged s a q → p ≡
 opener-found {s} {a} {q} {p} {b} {k} u e es nb cl n =
     subst (λ (x : ℕ). NextOpener s a x b k) (sym e) (record { before = u; size = es; bracket = nb; closed = cl; none = λ z. absurd (n z) })
 
-pub opener-missing : {s : List ℕ} {a q b : ℕ} → Untagged s a q → NextBracket s q b → length s ≤ q → NextOpener s a q b 0
-opener-missing {s} {a} {q} u nb le =
-    let d : drop q s ≡ [] = drop_of_length-le s {i = q} le in
-    record { before = u; size = sym (ap opener_size d ∙ no-opener); bracket = nb; closed = λ n. absurd (n refl); none = λ z. omega (arith, u.inside, le) }
-
 -- ---- an opener has at least 7 bytes
 
 bracket-later : (w x : List ℕ) → begins w x ≡ true → to_bracket w ≤ to_bracket x

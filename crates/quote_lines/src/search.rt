@@ -1,14 +1,13 @@
 // The quote tags of the original text, and the line of a converted quote.
-ghost use Rattle.std.specs.Prelude.{◌≡◌, true, cond, ℕ, ◌+◌, ◌-◌, ◌*◌, ◌≤◌, ◌<◌, length, take, drop};
+ghost use Rattle.std.specs.Prelude.{◌≡◌, true, cond, ℕ, ◌+◌, ◌-◌, ◌*◌, ◌≤◌, ◌<◌, length, take, drop, MatchOption};
 ghost use Rattle.text.specs.Bounds.{text_most, out_most};
-ghost use Rattle.text.specs.Ascii.{to_bracket};
-ghost use Rattle.quote_tags.specs.Tags.{NextBracket, opener_size};
+ghost use Rattle.quote_tags.specs.Tags.{NextBracket};
 ghost use Rattle.quote_lines.specs.Lines.{bare, tags, same, find, place, next_after, line_at};
-ghost use Rattle.quote_lines.specs.Tables.{words_at, WordsIn, Weighed, TagAt, Table, LinesRead, line_in, Tabled, NextOpener, lines_behind, PastBackslashes};
+ghost use Rattle.quote_lines.specs.Tables.{words_at, WordsIn, Weighed, TagAt, Table, LinesRead, line_in, Tabled, Untagged, NextOpener, lines_behind, PastBackslashes};
 
 use crate::weights::{bare_weight, next_number};
 use quote_tags::mask::mask_all;
-use quote_tags::tag::{bracket_from, next_tag, opens_quote, up_to_bracket};
+use quote_tags::tag::{Kind, next_tag, tag_at};
 use text::scan::next_bracket;
 use text::source::set_source;
 use text::{PostAt, shorter};
@@ -142,7 +141,7 @@ fn put_tag(s: &[u8], numbers: &mut [u32], p: usize, line: usize, a: usize, size:
     numbers[p + 2] = size as u32;
 }
 
-// A quote opener, its size and the place of the next `]`.
+// A quote opener, its size and the place of its `]`.
 #[derive(Clone, Copy)]
 pub struct Opener {
     pub at: PostAt,
@@ -150,53 +149,26 @@ pub struct Opener {
     pub size: usize,
 }
 
-// The opener at a place; its size is 0 where none is there.
-fn opener_at(s: &[u8], at: PostAt, known: PostAt) -> Opener
+// The first opener from a place on, if there is one.
+fn next_opener(s: &[u8], at: PostAt, known: PostAt) -> Option<Opener>
     requires { (at.0 ≤ length s.now) × NextBracket s.now at.0 known.0 }
-    ensures { ((result.at.0 ≡ at.0) × (result.size ≡ opener_size (drop at.0 s.now))) × (NextBracket s.now at.0 result.bracket.0 × ((result.size ≡ 0 → ⊥) → result.bracket.0 ≡ at.0 + to_bracket (drop at.0 s.now))) }
-{
-    if opens_quote(s, at) {
-        let bracket = bracket_from(s, at, known);
-        let size = up_to_bracket(s, at, bracket);
-        return Opener { at, bracket, size };
-    }
-    Opener {
-        at,
-        bracket: known,
-        size: 0,
-    }
-}
-
-// The first opener from a place on; its size is 0 and its place the end where there is none.
-fn next_opener(s: &[u8], at: PostAt, known: PostAt) -> Opener
-    requires { (at.0 ≤ length s.now) × NextBracket s.now at.0 known.0 }
-    ensures { NextOpener s.now at.0 result.at.0 result.bracket.0 result.size }
+    ensures { MatchOption result (Untagged s.now at.0 (length s.now)) (λ o. NextOpener s.now at.0 o.at.0 o.bracket.0 o.size × (o.size ≡ 0 → ⊥)) }
 {
     let mut i = at.0;
     let mut bracket = known;
     while i < s.len() {
-        let next = next_tag(s, PostAt(i));
-        let here = opener_at(s, next, bracket);
-        let size = here.size;
-        if size != 0 {
-            return here;
+        let at = next_tag(s, PostAt(i));
+        let tag = tag_at(s, at, bracket);
+        bracket = tag.bracket;
+        if let Kind::Opener(size) = tag.kind {
+            return Some(Opener { at, bracket, size });
         }
-        bracket = here.bracket;
-        i = next.0;
-        if s.len() <= i {
-            return Opener {
-                at: next,
-                bracket,
-                size: 0,
-            };
+        if s.len() <= at.0 {
+            return None;
         }
-        i += 1;
+        i = at.0 + 1;
     }
-    Opener {
-        at: PostAt(i),
-        bracket,
-        size: 0,
-    }
+    None
 }
 
 // Reads the next tag from a place on.
@@ -204,32 +176,22 @@ fn read_tag(s: &[u8], numbers: &mut [u32], t: usize, from: Reading) -> Reading
     requires { ((from.at.0 < length s.now) × (length s.now ≤ text_most)) × ((t + length s.now ≤ length numbers.old) × (NextBracket s.now from.at.0 from.bracket.0 × Tabled s.now numbers.old t from.at.0 from.line from.count)) }
     ensures { ((from.at.0 < result.at.0) × (result.at.0 ≤ length s.now)) × ((take t numbers.new ≡ take t numbers.old) × (NextBracket s.now result.at.0 result.bracket.0 × Tabled s.now numbers.new t result.at.0 result.line result.count)) }
 {
-    let at = from.at;
-    let line = from.line;
-    let count = from.count;
-    let opener = next_opener(s, at, from.bracket);
-    let place = opener.at;
-    let bracket = opener.bracket;
-    let k = opener.size;
-    if k == 0 {
+    let Some(opener) = next_opener(s, from.at, from.bracket) else {
         return Reading {
-            at: place,
-            bracket,
-            line,
-            count,
+            at: PostAt(s.len()),
+            ..from
         };
-    }
-    let i = place.0;
-    let line_here = line_behind(s, at.0, i, line);
-    let size = attribution_size(k);
-    put_tag(s, numbers, t + 3 * count, line_here, i + 7, size);
-    let next = i + k;
-    let line_next = line_behind(s, i, next, line_here);
+    };
+    let i = opener.at.0;
+    let line = line_behind(s, from.at.0, i, from.line);
+    let size = attribution_size(opener.size);
+    put_tag(s, numbers, t + 3 * from.count, line, i + 7, size);
+    let next = i + opener.size;
     Reading {
         at: PostAt(next),
-        bracket,
-        line: line_next,
-        count: count + 1,
+        bracket: opener.bracket,
+        line: line_behind(s, i, next, line),
+        count: from.count + 1,
     }
 }
 

@@ -12,7 +12,7 @@ ghost use Rattle.quote_losses.specs.Losses.{ListsToken, FewAt, ListsLosses};
 use crate::deep::{open_less, open_more};
 use attribution_losses::loss::put_losses;
 use quote_lines::search::{attribution_size, line_of};
-use quote_tags::tag::{next_tag, tag_at};
+use quote_tags::tag::{Kind, next_tag, tag_at};
 use text::PostAt;
 use text::bounds::DEEP_MOST;
 use text::scan::next_bracket;
@@ -53,53 +53,48 @@ fn list_token(
     let i = at.0;
     let tag = tag_at(source, at, known);
     let bracket = tag.bracket;
-    let k = tag.opener;
-    if k != 0 {
-        let a = i + 7;
-        let e = a + attribution_size(k);
-        let found = line_of(post, &numbers[base..], 0, count, next, &source[a..e]);
-        let c = put_losses(
-            &source[a..e],
-            quote as u32,
-            found.line,
-            &mut numbers[..base],
-            losses,
-            loss_bytes,
-            bytes,
-        );
-        let deeper = open_more(open);
-        return Listing {
+    match tag.kind {
+        Kind::Opener(k) => {
+            let a = i + 7;
+            let e = a + attribution_size(k);
+            let found = line_of(post, &numbers[base..], 0, count, next, &source[a..e]);
+            let c = put_losses(
+                &source[a..e],
+                quote as u32,
+                found.line,
+                &mut numbers[..base],
+                losses,
+                loss_bytes,
+                bytes,
+            );
+            Listing {
+                at: PostAt(i + k),
+                bracket,
+                open: open_more(open),
+                quote: quote + 1,
+                next: found.next,
+                losses: c.losses,
+                bytes: c.bytes,
+            }
+        }
+        Kind::Closer(k) => Listing {
             at: PostAt(i + k),
             bracket,
-            open: deeper,
-            quote: quote + 1,
-            next: found.next,
-            losses: c.losses,
-            bytes: c.bytes,
-        };
-    }
-    let j = tag.closer;
-    if j != 0 {
-        let higher = open_less(open);
-        return Listing {
-            at: PostAt(i + j),
-            bracket,
-            open: higher,
+            open: open_less(open),
             quote,
             next,
             losses,
             bytes,
-        };
-    }
-    let later = next_tag(source, PostAt(i + 1));
-    Listing {
-        at: later,
-        bracket,
-        open,
-        quote,
-        next,
-        losses,
-        bytes,
+        },
+        Kind::Plain => Listing {
+            at: next_tag(source, PostAt(i + 1)),
+            bracket,
+            open,
+            quote,
+            next,
+            losses,
+            bytes,
+        },
     }
 }
 

@@ -38,15 +38,13 @@ fn attribution_of(s: &[u8], tag: PostAt) -> Extent
     requires { tag.0 ≤ length s.now }
     ensures { ((result.from.0 ≤ result.to.0) × (result.to.0 ≤ length s.now)) × (take (result.to.0 - result.from.0) (drop result.from.0 s.now) ≡ attribution_of (drop tag.0 s.now)) }
 {
-    let i = tag.0;
     let bracket = next_bracket(s, tag);
-    let k = opener_size(s, tag, bracket);
-    if k < 9 {
-        return Extent { from: tag, to: tag };
-    }
-    Extent {
-        from: PostAt(i + 7),
-        to: PostAt(i + k - 1),
+    match opener_size(s, tag, bracket) {
+        Some(k) if 9 <= k => Extent {
+            from: PostAt(tag.0 + 7),
+            to: PostAt(tag.0 + k - 1),
+        },
+        _ => Extent { from: tag, to: tag },
     }
 }
 

@@ -6,7 +6,7 @@ ghost use Rattle.quote_blocks.specs.Quotes.{too_deep};
 ghost use Rattle.quote_steps.specs.Passes.{Lent, Ready, TakesToken, RunsAll, ClosesAll, PassedIn};
 
 use crate::close::{Areas, close_innermost};
-use quote_tags::tag::{next_tag, tag_at};
+use quote_tags::tag::{Kind, next_tag, tag_at};
 use text::area::copy_within;
 use text::bounds::DEEP_MOST;
 use text::scan::next_bracket;
@@ -50,51 +50,46 @@ fn take_token(
 {
     let size = m.text.0;
     let at = from.at;
-    let known = from.bracket;
     let to = from.to;
     let depth = from.depth;
     let i = at.0;
-    let t = to.0;
-    let tag = tag_at(&work[..size], at, known);
+    let tag = tag_at(&work[..size], at, from.bracket);
     let bracket = tag.bracket;
-    let k = tag.opener;
-    if k != 0 {
-        starts[depth] = t as u32;
-        tags[depth] = i as u32;
-        return Open {
-            at: PostAt(i + k),
-            bracket,
-            to,
-            depth: depth + 1,
-        };
-    }
-    let j = tag.closer;
-    if j != 0 {
-        if depth == 0 {
-            return Open {
-                at: PostAt(i + j),
+    match tag.kind {
+        Kind::Opener(k) => {
+            starts[depth] = to.0 as u32;
+            tags[depth] = i as u32;
+            Open {
+                at: PostAt(i + k),
                 bracket,
                 to,
-                depth,
-            };
+                depth: depth + 1,
+            }
         }
-        let r = close_innermost(work, numbers, m, starts, tags, depth, to);
-        return Open {
-            at: PostAt(i + j),
+        Kind::Closer(stray) if depth == 0 => Open {
+            at: PostAt(i + stray),
             bracket,
-            to: r,
+            to,
+            depth,
+        },
+        Kind::Closer(k) => Open {
+            at: PostAt(i + k),
+            bracket,
+            to: close_innermost(work, numbers, m, starts, tags, depth, to),
             depth: depth - 1,
-        };
-    }
-    let next = next_tag(&work[..size], PostAt(i + 1));
-    let a = in_work(WorkAt(0), at);
-    let e = in_work(WorkAt(0), next);
-    let r = copy_within(work, numbers, a, e, m.end.0, to);
-    Open {
-        at: next,
-        bracket,
-        to: r,
-        depth,
+        },
+        Kind::Plain => {
+            let next = next_tag(&work[..size], PostAt(i + 1));
+            let a = in_work(WorkAt(0), at);
+            let e = in_work(WorkAt(0), next);
+            let r = copy_within(work, numbers, a, e, m.end.0, to);
+            Open {
+                at: next,
+                bracket,
+                to: r,
+                depth,
+            }
+        }
     }
 }
 

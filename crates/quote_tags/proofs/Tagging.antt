@@ -1,5 +1,5 @@
 -- Laws of reading tags. Assumes nothing.
-use mathlib.Core.Path.{◌≡◌, refl, sym, ◌∙◌}
+use mathlib.Core.Path.{◌≡◌, refl, sym, ap, ◌∙◌}
 use Prim.Native.Nat.{ℕ, zero, suc, ◌+◌, ◌-◌, ◌≤◌, ◌<◌}
 use native.Mathlib.Omega.{arith}
 use native.Mathlib.Decide.{dec_le}
@@ -10,20 +10,23 @@ use lib.Seq.{drop-drop, take-take, length-take-le}
 use lib.Dec.{ltb}
 use borrow.Author.Tests.{lt-ltb, le-ltb}
 use Rattle.text.specs.Ascii.{begins, to_bracket}
-use Rattle.quote_tags.specs.Tags.{up_to_bracket, begins_any, tag_size, openers, opener_size, attribution_of}
+use Rattle.std.specs.Prelude.{Option, Some, None, MatchOption}
+use Rattle.quote_tags.specs.declared.tag.Kind.{Kind}
+use Rattle.quote_tags.specs.declared.tag.Kind.TheVariants.{Opener, Closer, Plain}
+use Rattle.quote_tags.specs.Tags.{up_to_bracket, begins_any, tag_size, openers, closers, opener_size, closer_size, sized, tag_of, attribution_of}
 
 -- ---- up to the `]` at b
 
 module _ (s : List ℕ) (i b : ℕ) (h : i ≤ length s) (e : b ≡ i + to_bracket (drop i s)) where
-  pub up-to-here : b < length s → b - i + 1 ≡ up_to_bracket (drop i s)
-  unfolding up_to_bracket
+  pub up-to-here : b < length s → Some (b - i + 1) ≡ sized (up_to_bracket (drop i s))
+  unfolding up_to_bracket sized
   up-to-here lt =
       let l : length (drop i s) ≡ length s - i = length-drop i s in
       let t : b - i + 1 ≡ suc (to_bracket (drop i s)) = omega arith in
-      rw (lt-ltb (to_bracket (drop i s)) (length (drop i s)) (omega arith)) t
+      rw (lt-ltb (to_bracket (drop i s)) (length (drop i s)) (omega arith), t)
 
-  pub up-to-none : length s ≤ b → 0 ≡ up_to_bracket (drop i s)
-  unfolding up_to_bracket
+  pub up-to-none : length s ≤ b → None ≡ sized (up_to_bracket (drop i s))
+  unfolding up_to_bracket sized
   up-to-none le =
       let l : length (drop i s) ≡ length s - i = length-drop i s in
       rw (le-ltb (to_bracket (drop i s)) (length (drop i s)) (omega arith))
@@ -47,9 +50,13 @@ tag-within ws s = by (begins_any ws s)
 -- ---- which tag it is
 
 module _ (ws : List (List ℕ)) (s : List ℕ) where
-  pub tag_is : {k : ℕ} → begins_any ws s ≡ true → k ≡ up_to_bracket s → k ≡ tag_size ws s
+  pub tag_is : {k : Option ℕ} → begins_any ws s ≡ true → k ≡ sized (up_to_bracket s) → k ≡ sized (tag_size ws s)
   unfolding tag_size
   tag_is p e = rw p e
+
+  pub tag-missing : begins_any ws s ≡ false → None ≡ sized (tag_size ws s)
+  unfolding tag_size sized
+  tag-missing p = rw p
 
   pub tag-not : begins_any ws s ≡ false → 0 ≡ tag_size ws s
   unfolding tag_size
@@ -120,3 +127,91 @@ module _ (ws : List (List ℕ)) (s : List ℕ) (i : ℕ) (h : i ≤ length s) {k
       by true true p = omega arith
       by true false p = absurd (n p)
       by false u p = absurd (n p)
+
+-- ---- a tag as code has it
+
+unfoldable pub kind_or : (f : ℕ → Kind) → Option ℕ → Kind
+kind_or f None = Plain
+kind_or f (Some k) = f k
+
+pub mapped : (f : ℕ → Kind) (r : Option ℕ) {o : Kind} {P : ℕ → Type 0} → MatchOption r (o ≡ Plain) P → ((k : ℕ) → P k → o ≡ f k) → o ≡ kind_or f r
+unfolding kind_or
+mapped f None h g = h
+mapped f (Some k) h g = g k h
+
+module _ (x : List ℕ) {r : Option ℕ} {o : Kind} (er : r ≡ sized (up_to_bracket x)) where
+  pub tag-opens : begins_any openers x ≡ true → o ≡ kind_or Opener r → o ≡ tag_of (opener_size x) (closer_size x)
+  unfolding opener_size closer_size tag_size sized tag_of kind_or
+  tag-opens p q = rw (q, er, p) (by (up_to_bracket x) (begins_any closers x))
+    where
+      by : (k : ℕ) (t : Bool) → kind_or Opener (sized k) ≡ tag_of k (cond t k 0)
+      by zero true = refl
+      by zero false = refl
+      by (suc k) t = refl
+
+  pub tag-closes : begins_any openers x ≡ false → begins_any closers x ≡ true → o ≡ kind_or Closer r → o ≡ tag_of (opener_size x) (closer_size x)
+  unfolding opener_size closer_size tag_size sized tag_of kind_or
+  tag-closes n p q = rw (q, er, n, p) (by (up_to_bracket x))
+    where
+      by : (k : ℕ) → kind_or Closer (sized k) ≡ tag_of 0 k
+      by zero = refl
+      by (suc k) = refl
+
+pub tag-neither : (x : List ℕ) → begins_any openers x ≡ false → begins_any closers x ≡ false → Plain ≡ tag_of (opener_size x) (closer_size x)
+unfolding opener_size closer_size tag_size tag_of
+tag-neither x n p = rw (n, p)
+
+-- what is known where a tag or a size was found, or none
+
+module _ {u : ℕ} {r : Option ℕ} (e : r ≡ sized u) where
+  pub sized-some : {k : ℕ} → r ≡ Some k → (k ≡ u) × (k ≡ 0 → ⊥)
+  unfolding sized
+  sized-some {k} q = by u (sym e ∙ q)
+    where
+      by : (u : ℕ) → sized u ≡ Some k → (k ≡ u) × (k ≡ 0 → ⊥)
+      by zero p = absurd (cc)
+      by (suc u) p = let z : k ≡ suc u = cc in (z, omega (arith, z))
+
+  pub sized-none : r ≡ None → u ≡ 0
+  unfolding sized
+  sized-none q = by u (sym e ∙ q)
+    where
+      by : (u : ℕ) → sized u ≡ None → u ≡ 0
+      by zero p = refl
+      by (suc u) p = absurd (cc)
+
+module _ (u v : ℕ) {r : Kind} (e : r ≡ tag_of u v) where
+  pub tag-opener : {k : ℕ} → r ≡ Opener k → (k ≡ u) × (k ≡ 0 → ⊥)
+  unfolding tag_of
+  tag-opener {k} q = by u v (sym e ∙ q)
+    where
+      by : (u v : ℕ) → tag_of u v ≡ Opener k → (k ≡ u) × (k ≡ 0 → ⊥)
+      by zero zero p = absurd (cc)
+      by zero (suc v) p = absurd (cc)
+      by (suc u) v p = let z : k ≡ suc u = cc in (z, omega (arith, z))
+
+  pub tag-closer : {k : ℕ} → r ≡ Closer k → (u ≡ 0) × ((k ≡ v) × (k ≡ 0 → ⊥))
+  unfolding tag_of
+  tag-closer {k} q = by u v (sym e ∙ q)
+    where
+      by : (u v : ℕ) → tag_of u v ≡ Closer k → (u ≡ 0) × ((k ≡ v) × (k ≡ 0 → ⊥))
+      by zero zero p = absurd (cc)
+      by zero (suc v) p = let z : k ≡ suc v = cc in (refl, (z, omega (arith, z)))
+      by (suc u) v p = absurd (cc)
+
+  pub tag-plain : r ≡ Plain → (u ≡ 0) × (v ≡ 0)
+  unfolding tag_of
+  tag-plain q = by u v (sym e ∙ q)
+    where
+      by : (u v : ℕ) → tag_of u v ≡ Plain → (u ≡ 0) × (v ≡ 0)
+      by zero zero p = (refl, refl)
+      by zero (suc v) p = absurd (cc)
+      by (suc u) v p = absurd (cc)
+
+  pub tag-other : ((k : ℕ) → r ≡ Opener k → ⊥) → u ≡ 0
+  unfolding tag_of
+  tag-other f = by u v (λ k q. f k (e ∙ q))
+    where
+      by : (u v : ℕ) → ((k : ℕ) → tag_of u v ≡ Opener k → ⊥) → u ≡ 0
+      by zero v g = refl
+      by (suc u) v g = absurd (g (suc u) refl)

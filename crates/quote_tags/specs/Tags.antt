@@ -3,13 +3,17 @@
 --   tag_size ws s     of the tag that s begins with: one of the words ws and anything up to `]`; 0 where it begins with none
 --   opener_size s     `[quote]`, or `[quote` with `=` or space and anything up to `]`
 --   closer_size s     `[/quote]`
+--   sized k          a size as code has it: none where it is 0
+--   tag_of k j       what stands where an opener has k bytes and a closer j: 0 where there is none
 --   NoTag s          s begins with no quote tag
 --   NoQ b            b is no q, small or capital
 --   attribution_of s  what stands between `=` or space and `]`, where s begins with an opener
 --   NextBracket s i b  the place b of the first `]` from i on, or the end, where it is not before i
 -- Assumes nothing.
-use Rattle.std.specs.Prelude.{◌≡◌, ℕ, suc, ◌+◌, ◌-◌, ◌≤◌, Bool, false, cond, ◌||◌, List, [], ◌∷◌, length, take, drop, ltb}
+use Rattle.std.specs.Prelude.{◌≡◌, ℕ, zero, suc, ◌+◌, ◌-◌, ◌≤◌, Bool, false, cond, ◌||◌, List, [], ◌∷◌, length, take, drop, ltb, Option, Some, None}
 use Rattle.text.specs.Ascii.{ascii, is, begins, to_bracket}
+use Rattle.quote_tags.specs.declared.tag.Kind.{Kind}
+use Rattle.quote_tags.specs.declared.tag.Kind.TheVariants.{Opener, Closer, Plain}
 
 unfoldable pub up_to_bracket : List ℕ → ℕ
 up_to_bracket s = cond (ltb (to_bracket s) (length s)) (suc (to_bracket s)) 0
@@ -34,6 +38,15 @@ opener_size s = tag_size openers s
 unfoldable pub closer_size : List ℕ → ℕ
 closer_size s = tag_size closers s
 
+unfoldable pub sized : ℕ → Option ℕ
+sized zero = None
+sized (suc k) = Some (suc k)
+
+unfoldable pub tag_of : (opener closer : ℕ) → Kind
+tag_of zero zero = Plain
+tag_of zero (suc k) = Closer (suc k)
+tag_of (suc k) j = Opener (suc k)
+
 abbrev pub NoTag : List ℕ → Type 0
 NoTag s = (opener_size s ≡ 0) × (closer_size s ≡ 0)
 
@@ -48,5 +61,5 @@ NextBracket s i b = i ≤ b → b ≡ i + to_bracket (drop i s)
 
 -- all of this module, for `unfolding` where a closed text is to be computed
 unfoldable pub computes : Unit {0}
-unfolding up_to_bracket begins_any tag_size opener_size closer_size attribution_of
+unfolding up_to_bracket begins_any tag_size opener_size closer_size sized tag_of attribution_of
 computes = tt

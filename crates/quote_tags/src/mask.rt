@@ -2,7 +2,7 @@
 // the place of the next one is kept.
 ghost use Rattle.std.specs.Prelude.{◌≡◌, cond, false, List, [], ◌∷◌, ℕ, ◌+◌, ◌-◌, ◌≤◌, ◌<◌, length, take, drop, get_or};
 ghost use Rattle.text.specs.Ascii.{is, inside, to_bracket};
-ghost use Rattle.quote_tags.specs.Tags.{NextBracket, begins_any, tag_size};
+ghost use Rattle.quote_tags.specs.Tags.{NextBracket, begins_any, tag_size, sized};
 ghost use Rattle.quote_tags.specs.Masks.{to_closer, region, blanked, Masked, Rewritten, KnownCloser, visible, NoMask, NoOpener};
 
 use crate::tag::{bracket_from, up_to_bracket};
@@ -35,15 +35,22 @@ fn next_closer(s: &[u8], at: PostAt, first: &[u8], second: &[u8]) -> PostAt
     PostAt(i)
 }
 
-// The size of an opener or a closer at a place, one of two words and anything up to `]`; 0 where none is there.
-fn size_of_either(s: &[u8], at: PostAt, bracket: PostAt, first: &[u8], second: &[u8]) -> usize
+// The size of an opener or a closer at a place, one of two words and anything up to `]`, if one is there.
+fn size_of_either(
+    s: &[u8],
+    at: PostAt,
+    bracket: PostAt,
+    first: &[u8],
+    second: &[u8],
+) -> Option<usize>
     requires { (at.0 ≤ length s.now) × (bracket.0 ≡ at.0 + to_bracket (drop at.0 s.now)) }
-    ensures { result ≡ tag_size (first.now ∷ second.now ∷ []) (drop at.0 s.now) }
+    ensures { result ≡ sized (tag_size (first.now ∷ second.now ∷ []) (drop at.0 s.now)) }
 {
     if begins_either(s, at, first, second) {
-        return up_to_bracket(s, at, bracket);
+        up_to_bracket(s, at, bracket)
+    } else {
+        None
     }
-    0
 }
 
 // The next closer, and the place from which on it is.
@@ -102,31 +109,27 @@ fn region_at(
     requires { (at.0 < length s.now) × (NextBracket s.now at.0 bracket.0 × KnownCloser (first.now ∷ second.now ∷ []) s.now at.0 closer.from.0 closer.at.0) }
     ensures { (result.size ≡ region (record { opens = opener.now ∷ opener2.now ∷ []; closes = first.now ∷ second.now ∷ [] }) (drop at.0 s.now)) × ((result.bracket.0 ≡ at.0 + to_bracket (drop at.0 s.now)) × KnownCloser (first.now ∷ second.now ∷ []) s.now at.0 result.closer.from.0 result.closer.at.0) }
 {
-    let i = at.0;
-    let b = bracket_from(s, at, bracket);
-    let k = size_of_either(s, at, b, opener, opener2);
-    if k == 0 {
+    let bracket = bracket_from(s, at, bracket);
+    let Some(k) = size_of_either(s, at, bracket, opener, opener2) else {
         return Region {
             size: 0,
-            bracket: b,
+            bracket,
             closer,
         };
-    }
-    let c = closer_from(s, i, PostAt(i + k), closer, first, second);
-    let place = c.at;
-    let q = place.0;
-    let z = size_of_either(s, place, next_bracket(s, place), first, second);
-    if z == 0 {
+    };
+    let closer = closer_from(s, at.0, PostAt(at.0 + k), closer, first, second);
+    let q = closer.at;
+    let Some(z) = size_of_either(s, q, next_bracket(s, q), first, second) else {
         return Region {
             size: 0,
-            bracket: b,
-            closer: c,
+            bracket,
+            closer,
         };
-    }
+    };
     Region {
-        size: q - i + z,
-        bracket: b,
-        closer: c,
+        size: q.0 - at.0 + z,
+        bracket,
+        closer,
     }
 }
 

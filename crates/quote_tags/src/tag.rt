@@ -1,7 +1,8 @@
 // Reading tags. Every `]` is looked for once: the place of the next one is kept.
 ghost use Rattle.std.specs.Prelude.{◌≡◌, false, ℕ, ◌+◌, ◌≤◌, ◌<◌, length, drop, get_or};
+ghost use Rattle.quote_tags.specs.declared.tag.Kind.TheVariants.{Plain};
 ghost use Rattle.text.specs.Ascii.{to_bracket};
-ghost use Rattle.quote_tags.specs.Tags.{NextBracket, up_to_bracket, begins_any, openers, opener_size, closer_size, NoTag, NoQ};
+ghost use Rattle.quote_tags.specs.Tags.{NextBracket, up_to_bracket, begins_any, openers, opener_size, closer_size, sized, tag_of, NoTag, NoQ};
 
 use text::PostAt;
 use text::scan::{begins_at, byte_at, next_bracket, next_byte, small_of};
@@ -11,25 +12,23 @@ pub fn bracket_from(s: &[u8], at: PostAt, known: PostAt) -> PostAt
     requires { (at.0 ≤ length s.now) × NextBracket s.now at.0 known.0 }
     ensures { result.0 ≡ at.0 + to_bracket (drop at.0 s.now) }
 {
-    let i = at.0;
-    let b = known.0;
-    if i <= b {
-        return PostAt(b);
+    if at.0 <= known.0 {
+        known
+    } else {
+        next_bracket(s, at)
     }
-    next_bracket(s, at)
 }
 
-// How many bytes there are from a place on up to and with the `]`, 0 where there is none.
-pub fn up_to_bracket(s: &[u8], at: PostAt, bracket: PostAt) -> usize
+// How many bytes there are from a place on up to and with the `]`, if there is one.
+pub fn up_to_bracket(s: &[u8], at: PostAt, bracket: PostAt) -> Option<usize>
     requires { (at.0 ≤ length s.now) × (bracket.0 ≡ at.0 + to_bracket (drop at.0 s.now)) }
-    ensures { result ≡ up_to_bracket (drop at.0 s.now) }
+    ensures { result ≡ sized (up_to_bracket (drop at.0 s.now)) }
 {
-    let i = at.0;
-    let b = bracket.0;
-    if b < s.len() {
-        return b - i + 1;
+    if bracket.0 < s.len() {
+        Some(bracket.0 - at.0 + 1)
+    } else {
+        None
     }
-    0
 }
 
 // Whether the word of a quote opener stands at a place.
@@ -153,62 +152,49 @@ pub fn next_tag(s: &[u8], at: PostAt) -> PostAt
     PostAt(i)
 }
 
-// How many bytes the quote opener at a place has, 0 where none is there.
-pub fn opener_size(s: &[u8], at: PostAt, bracket: PostAt) -> usize
+// How many bytes the quote opener at a place has, if one is there.
+pub fn opener_size(s: &[u8], at: PostAt, bracket: PostAt) -> Option<usize>
     requires { (at.0 ≤ length s.now) × (bracket.0 ≡ at.0 + to_bracket (drop at.0 s.now)) }
-    ensures { result ≡ opener_size (drop at.0 s.now) }
+    ensures { result ≡ sized (opener_size (drop at.0 s.now)) }
 {
     if opens_quote(s, at) {
-        return up_to_bracket(s, at, bracket);
+        up_to_bracket(s, at, bracket)
+    } else {
+        None
     }
-    0
 }
 
-// How many bytes the quote closer at a place has, 0 where none is there.
-pub fn closer_size(s: &[u8], at: PostAt, bracket: PostAt) -> usize
-    requires { (at.0 ≤ length s.now) × (bracket.0 ≡ at.0 + to_bracket (drop at.0 s.now)) }
-    ensures { result ≡ closer_size (drop at.0 s.now) }
-{
-    if begins_at(s, at, b"[/quote]") {
-        return up_to_bracket(s, at, bracket);
-    }
-    0
+// What stands at a place: a quote tag of so many bytes, or none.
+#[derive(Clone, Copy)]
+pub enum Kind {
+    Opener(usize),
+    Closer(usize),
+    Plain,
 }
 
-// The quote tag at a place: the size of an opener, of a closer, and the place of the next `]`, which is looked for only where a tag's word stands.
+// The quote tag at a place, and the place of the next `]`, which is looked for only where a tag's word stands.
 #[derive(Clone, Copy)]
 pub struct Tag {
-    pub opener: usize,
-    pub closer: usize,
+    pub kind: Kind,
     pub bracket: PostAt,
 }
 
 pub fn tag_at(s: &[u8], at: PostAt, known: PostAt) -> Tag
     requires { (at.0 ≤ length s.now) × NextBracket s.now at.0 known.0 }
-    ensures { NextBracket s.now at.0 result.bracket.0 × ((result.opener ≡ opener_size (drop at.0 s.now)) × (result.closer ≡ closer_size (drop at.0 s.now))) }
+    ensures { (NextBracket s.now at.0 result.bracket.0 × ((result.kind ≡ Plain → ⊥) → result.bracket.0 ≡ at.0 + to_bracket (drop at.0 s.now))) × (result.kind ≡ tag_of (opener_size (drop at.0 s.now)) (closer_size (drop at.0 s.now))) }
 {
     if opens_quote(s, at) {
         let bracket = bracket_from(s, at, known);
-        let opener = up_to_bracket(s, at, bracket);
-        let closer = closer_size(s, at, bracket);
-        return Tag {
-            opener,
-            closer,
-            bracket,
-        };
-    }
-    if begins_at(s, at, b"[/quote]") {
+        let kind = up_to_bracket(s, at, bracket).map_or(Kind::Plain, Kind::Opener);
+        Tag { kind, bracket }
+    } else if begins_at(s, at, b"[/quote]") {
         let bracket = bracket_from(s, at, known);
-        let closer = up_to_bracket(s, at, bracket);
-        return Tag {
-            opener: 0,
-            closer,
-            bracket,
-        };
-    }
-    Tag {
-        opener: 0,
-        closer: 0,
-        bracket: known,
+        let kind = up_to_bracket(s, at, bracket).map_or(Kind::Plain, Kind::Closer);
+        Tag { kind, bracket }
+    } else {
+        Tag {
+            kind: Kind::Plain,
+            bracket: known,
+        }
     }
 }

@@ -1,34 +1,31 @@
 use native.Mathlib.Omega.{arith}
-use mathlib.Core.Path.{sym, ◌∙◌}
+use mathlib.Core.Path.{refl, sym}
 use Prim.Native.Nat.{◌≤◌}
 use lib.ListN.{length}
-use Rattle.quote_tags.proofs.Tagging.{behind-within}
+use Rattle.quote_tags.proofs.Tagging.{behind-within, sized-some, sized-none}
 use Rattle.quote_tags.proofs.Masking.{region-none, region-here, region-unclosed, closer-place}
 use Rattle.quote_tags.proofs.mask.region_at.Goals as goal
 
-pub returns-then-k-eq0 : goal.returns-then-k-eq0
-returns-then-k-eq0 c = (region-none _ _ (sym c.if-k-eq0.true ∙ c.size_of_either-k.ensures), (c.bracket_from-b.ensures, c.requires.1.1))
+pub returns-in_default : goal.returns-in_default
+returns-in_default c = let z = sized-none c.size_of_either.ensures c.in_default.is in (region-none _ _ (sym z), (c.bracket_from-bracket.ensures, c.requires.1.1))
 
-pub overflow_add-i : goal.overflow_add-i
-overflow_add-i c = let a = c.args in let w = behind-within _ a.s.now a.at.0 (omega (arith, c.requires.0)) c.size_of_either-k.ensures in omega (arith, w)
+pub overflow_add-at : goal.overflow_add-at
+overflow_add-at c = let a = c.args in let k = sized-some c.size_of_either.ensures c.in-Some.is in let w = behind-within _ a.s.now a.at.0 (omega (arith, c.requires.0)) k.0 in omega (arith, w)
 
-pub closer_from-c-requires : goal.closer_from-c-requires
-closer_from-c-requires c = let a = c.args in let w = behind-within _ a.s.now a.at.0 (omega (arith, c.requires.0)) c.size_of_either-k.ensures in ((omega arith, w), c.requires.1.1)
+pub closer_from-closer-requires : goal.closer_from-closer-requires
+closer_from-closer-requires c = let a = c.args in let k = sized-some c.size_of_either.ensures c.in-Some.is in let w = behind-within _ a.s.now a.at.0 (omega (arith, c.requires.0)) k.0 in ((omega arith, w), c.requires.1.1)
 
 pub next_bracket-requires : goal.next_bracket-requires
-next_bracket-requires c = let a = c.args in let i = a.at.0 in let s = a.s.now in let h : i ≤ length s = omega (arith, c.requires.0) in let P = closer-place _ _ s i _ _ h c.size_of_either-k.ensures c.closer_from-c.ensures.0 in P.1.1
+next_bracket-requires c = let a = c.args in let i = a.at.0 in let s = a.s.now in let h : i ≤ length s = omega (arith, c.requires.0) in let k = sized-some c.size_of_either.ensures c.in-Some.is in let P = closer-place _ _ s i _ _ h k.0 c.closer_from-closer.ensures.0 in P.1.1
 
-pub size_of_either-z-requires : goal.size_of_either-z-requires
-size_of_either-z-requires c = let a = c.args in let i = a.at.0 in let s = a.s.now in let h : i ≤ length s = omega (arith, c.requires.0) in let P = closer-place _ _ s i _ _ h c.size_of_either-k.ensures c.closer_from-c.ensures.0 in (P.1.1, c.next_bracket.ensures)
+pub size_of_either-requires-2 : goal.size_of_either-requires-2
+size_of_either-requires-2 c = let a = c.args in let i = a.at.0 in let s = a.s.now in let h : i ≤ length s = omega (arith, c.requires.0) in let k = sized-some c.size_of_either.ensures c.in-Some.is in let P = closer-place _ _ s i _ _ h k.0 c.closer_from-closer.ensures.0 in (P.1.1, c.next_bracket.ensures)
 
-pub returns-then-z-eq0 : goal.returns-then-z-eq0
-returns-then-z-eq0 c = let a = c.args in let i = a.at.0 in let s = a.s.now in let h : i ≤ length s = omega (arith, c.requires.0) in let P = closer-place _ _ s i _ _ h c.size_of_either-k.ensures c.closer_from-c.ensures.0 in (region-unclosed (record { opens = _; closes = _ }) s i _ _ _ c.size_of_either-k.ensures c.closer_from-c.ensures.0 c.size_of_either-z.ensures c.if-k-eq0.false c.if-z-eq0.true, (c.bracket_from-b.ensures, c.closer_from-c.ensures.1))
-
-pub overflow_sub-result : goal.overflow_sub-result
-overflow_sub-result c = let a = c.args in let i = a.at.0 in let s = a.s.now in let h : i ≤ length s = omega (arith, c.requires.0) in let P = closer-place _ _ s i _ _ h c.size_of_either-k.ensures c.closer_from-c.ensures.0 in omega (arith, P.1.0)
+pub returns-in_default-size_of_either : goal.returns-in_default-size_of_either
+returns-in_default-size_of_either c = let a = c.args in let i = a.at.0 in let s = a.s.now in let k = sized-some c.size_of_either.ensures c.in-Some.is in let z = sized-none c.size_of_either-2.ensures c.in_default-size_of_either.is in (region-unclosed (record { opens = _; closes = _ }) s i _ _ _ k.0 c.closer_from-closer.ensures.0 (sym z) k.1 refl, (c.bracket_from-bracket.ensures, c.closer_from-closer.ensures.1))
 
 pub overflow_add-result : goal.overflow_add-result
-overflow_add-result c = let a = c.args in let i = a.at.0 in let s = a.s.now in let h : i ≤ length s = omega (arith, c.requires.0) in let P = closer-place _ _ s i _ _ h c.size_of_either-k.ensures c.closer_from-c.ensures.0 in let w = behind-within _ s _ P.1.1 c.size_of_either-z.ensures in omega (arith, w, P.1.0)
+overflow_add-result c = let a = c.args in let i = a.at.0 in let s = a.s.now in let h : i ≤ length s = omega (arith, c.requires.0) in let k = sized-some c.size_of_either.ensures c.in-Some.is in let z = sized-some c.size_of_either-2.ensures c.in-Some-size_of_either.is in let P = closer-place _ _ s i _ _ h k.0 c.closer_from-closer.ensures.0 in let w = behind-within _ s _ P.1.1 z.0 in omega (arith, w, P.1.0)
 
 pub returns : goal.returns
-returns c = let a = c.args in let i = a.at.0 in let s = a.s.now in let h : i ≤ length s = omega (arith, c.requires.0) in let P = closer-place _ _ s i _ _ h c.size_of_either-k.ensures c.closer_from-c.ensures.0 in (region-here (record { opens = _; closes = _ }) s i _ _ _ c.size_of_either-k.ensures c.closer_from-c.ensures.0 c.size_of_either-z.ensures c.if-k-eq0.false c.if-z-eq0.false, (c.bracket_from-b.ensures, c.closer_from-c.ensures.1))
+returns c = let a = c.args in let i = a.at.0 in let s = a.s.now in let k = sized-some c.size_of_either.ensures c.in-Some.is in let z = sized-some c.size_of_either-2.ensures c.in-Some-size_of_either.is in (region-here (record { opens = _; closes = _ }) s i _ _ _ k.0 c.closer_from-closer.ensures.0 z.0 k.1 z.1, (c.bracket_from-bracket.ensures, c.closer_from-closer.ensures.1))

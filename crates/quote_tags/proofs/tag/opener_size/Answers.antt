@@ -1,5 +1,5 @@
 use mathlib.Core.Path.{sym, ◌∙◌}
-use Rattle.quote_tags.proofs.Tagging.{tag_is, tag-not}
+use Rattle.quote_tags.proofs.Tagging.{tag_is, tag-missing}
 use Rattle.quote_tags.specs.Tags.{opener_size}
 use Rattle.quote_tags.proofs.tag.opener_size.Goals as goal
 
@@ -7,6 +7,6 @@ pub returns-then-opens_quote : goal.returns-then-opens_quote
 unfolding opener_size
 returns-then-opens_quote c = tag_is _ _ (sym c.opens_quote.ensures ∙ c.if-opens_quote.true) c.up_to_bracket.ensures
 
-pub returns : goal.returns
+pub returns-else-opens_quote : goal.returns-else-opens_quote
 unfolding opener_size
-returns c = tag-not _ _ (sym c.opens_quote.ensures ∙ c.if-opens_quote.false)
+returns-else-opens_quote c = tag-missing _ _ (sym c.opens_quote.ensures ∙ c.if-opens_quote.false)
