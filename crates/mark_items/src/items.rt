@@ -113,11 +113,9 @@ pub fn settle(nums: &mut [u32], n: usize, k: usize)
     requires { (k ≤ n + 1) × ((n ≤ text_most) × (4 * n + 4 ≤ length nums.old)) }
     ensures { Recodes (λ f. (settled f).flat) n k nums.old nums.new }
 {
-    let mut closes: usize = 0;
-    let mut j = k;
-    while 0 < j {
-        closes = settle_item(nums, n, j - 1, closes);
-        j -= 1;
+    let mut closes = 0;
+    for j in (0..k).rev() {
+        closes = settle_item(nums, n, j, closes);
     }
 }
 
@@ -198,10 +196,8 @@ pub fn merge(nums: &mut [u32], n: usize, k: usize)
     ensures { Recodes (λ f. merged f no-kinds []) n k nums.old nums.new }
 {
     let mut state = Open { mask: 0, depth: 0 };
-    let mut j: usize = 0;
-    while j < k {
+    for j in 0..k {
         state = merge_item(nums, n, j, state);
-        j += 1;
     }
 }
 

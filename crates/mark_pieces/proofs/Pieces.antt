@@ -1,18 +1,22 @@
 -- Laws of the pieces that are written, and of a cell put before others. Assumes nothing.
-use mathlib.Core.Path.{◌≡◌, refl, sym, ap, ◌∙◌, subst}
-use mathlib.Core.Bool.{Bool, true, false, not, ◌&&◌}
-use mathlib.Core.List.{List, [], ◌∷◌, ◌++◌}
-use Prim.Native.Nat.{ℕ, zero, suc, ◌+◌, ◌-◌, ◌≤◌, ◌<◌}
+use mathlib.Core.Path.{◌≡◌, refl, sym, ap, ◌∙◌}
+use mathlib.Core.Bool.{Bool, true, false, not, cond, ◌&&◌}
+use mathlib.Core.List.{List, [], ◌∷◌, ◌++◌, reverse, reverse-reverse, reverse-cons}
+use Prim.Native.Nat.{ℕ, zero, suc, ◌+◌, ◌-◌, ◌%◌, ◌≤◌, ◌<◌}
 use native.Mathlib.Numerals.{add-one}
 use native.Mathlib.Omega.{arith}
 use lib.Dec.{eqb}
-use lib.ListN.{length, take, drop, get_or, set, length-append, length-set, length-take, take-append-drop, drop_of_length-le}
-use lib.Seq.{slice-cons, take-suc, drop-append-le, take-take, take-set-le, take-set-lt, drop-set-lt, get_or-take, get_or-set_same, take-append_seam, drop-append_seam, length-take-le}
-use borrow.Author.Tests.{eq-eqb, ne_eqb}
+use lib.ListN.{length, take, drop, get_or, set, length-append, length-set, take-append-drop, length-drop}
+use lib.Seq.{take-append-le, drop_at, slice-cons, take-take, take-set-le, take-set-lt, drop-set-lt, get_or-set_same, take-append_seam, drop-append_seam, length-take-le}
+use Rattle.std.specs.List.{prefix_len, copy_within}
+use Rattle.std.proofs.lemmas.List.Folds.{length-prefix_len}
+use Rattle.std.proofs.lemmas.List.Edits.{take-paste, length-paste}
+use Rattle.text.proofs.Areas.{drop-take}
+use Rattle.text.proofs.Sources.{cells-taken, cells-dropped}
 use Rattle.text.specs.Ascii.{is, is_empty}
 use Rattle.text.specs.Cells.{Cell, cell, cells, part, bytes, sign}
 use Rattle.text.specs.Writes.{Appends}
-use Rattle.text.proofs.Writing.{holds_fits, appends-then, part-snoc, part-cons, part_none, cells-set, cells_at, cells-short, cells-le}
+use Rattle.text.proofs.Writing.{holds_fits, appends-then, part-snoc, part-cons, part_none, cells-set, cells-short, cells-le}
 use Rattle.text.proofs.Clearing.{cells-bytes}
 use Rattle.mark_tags.specs.Marks.{escape_last, backslash, touching, piece_text, first_or, absent}
 use Rattle.mark_tags.specs.Flat.{even_run, Inserts}
@@ -24,38 +28,26 @@ unfolding even_run
 even-snoc even [] b = refl
 even-snoc even (x ∷ s) b = even-snoc (not (eqb x 92 && even)) s b
 
--- of a run that `even` says of what stands behind it
-abbrev pub with : (even run : Bool) → Bool
-with true run = run
-with false run = not run
+even-turns : (n : ℕ) → eqb (suc n % 2) 0 ≡ not (eqb (n % 2) 0)
+even-turns zero = refl
+even-turns (suc zero) = refl
+even-turns (suc (suc n)) =
+    let a : suc (suc (suc n)) % 2 ≡ suc n % 2 = omega arith in
+    let b : suc (suc n) % 2 ≡ n % 2 = omega arith in
+    rw (a, b) (even-turns n)
 
-with-true : (even : Bool) → with even true ≡ even
-with-true true = refl
-with-true false = refl
+even-more : (y : Bool) (n : ℕ) (e : Bool) → eqb (n % 2) 0 ≡ e → eqb (cond y (1 + n) 0 % 2) 0 ≡ not (y && e)
+even-more true n e h = let z : 1 + n ≡ suc n = omega arith in rw z (even-turns n ∙ ap not h)
+even-more false n e h = refl
 
-with-not : (even run : Bool) → with (not even) run ≡ with even (not run)
-with-not true run = refl
-with-not false true = refl
-with-not false false = refl
-
-pub even-none : (s : List ℕ) (a i : ℕ) (even : Bool) → i ≤ a → with even (even_run true (drop a (take i s))) ≡ even
+-- a run is even if as many backslashes stand at its end
+even-prefix : (r : List ℕ) → eqb (prefix_len (λ x. eqb x 92) r % 2) 0 ≡ even_run true (reverse r)
 unfolding even_run
-even-none s a i even h = let m = length-take i s in rw (drop_of_length-le (take i s) {i = a} (omega arith)) (with-true even)
+even-prefix [] = refl
+even-prefix (b ∷ r) = rw (reverse-cons b r, even-snoc true (reverse r) b) (even-more (eqb b 92) (prefix_len (λ x. eqb x 92) r) (even_run true (reverse r)) (even-prefix r))
 
-module _ (s : List ℕ) (a i : ℕ) (even : Bool) (h : a < i) (k : i ≤ length s) where
-  even-last : even_run true (drop a (take i s)) ≡ not (eqb (get_or s (i - 1) 0) 92 && even_run true (drop a (take (i - 1) s)))
-  even-last =
-      let z : i ≡ suc (i - 1) = omega arith in
-      let l = length-take-le (i - 1) s (omega arith) in
-      let t : take i s ≡ take (i - 1) s ++ (get_or s (i - 1) 0 ∷ []) = ap (λ (n : ℕ). take n s) z ∙ take-suc s (i - 1) 0 (omega arith) in
-      ap (even_run true) (ap (drop a) t ∙ drop-append-le a (take (i - 1) s) (get_or s (i - 1) 0 ∷ []) (omega arith))
-      ∙ even-snoc true (drop a (take (i - 1) s)) (get_or s (i - 1) 0)
-
-  pub even-other : (get_or s (i - 1) 0 ≡ 92 → ⊥) → with even (even_run true (drop a (take i s))) ≡ even
-  even-other n = rw (even-last, ne_eqb (get_or s (i - 1) 0) 92 n) (with-true even)
-
-  pub even-turn : get_or s (i - 1) 0 ≡ 92 → with (not even) (even_run true (drop a (take (i - 1) s))) ≡ with even (even_run true (drop a (take i s)))
-  even-turn e = rw (even-last, eq-eqb (get_or s (i - 1) 0) 92 e) (with-not even (even_run true (drop a (take (i - 1) s))))
+pub even-counted : (s t : List ℕ) (n : ℕ) → s ≡ t → n ≡ length (take (prefix_len (λ x. eqb x 92) (reverse s)) (reverse s)) → eqb (n % 2) 0 ≡ even_run true t
+even-counted s t n e k = rw (k, length-prefix_len (λ x. eqb x 92) (reverse s)) (even-prefix (reverse s) ∙ ap (even_run true) (reverse-reverse s ∙ e))
 
 not-empty : (p : List Cell) (c : Cell) → is_empty (p ++ (c ∷ [])) ≡ false
 not-empty [] c = refl
@@ -118,9 +110,6 @@ pub record Moved (v₀ v : List Cell) (i end : ℕ) : Type 0 where
   pub low : take i v ≡ take i v₀
   pub high : part (suc i) (suc end) v ≡ part i end v₀
 
-pub moved-start : (v : List Cell) (end : ℕ) → Moved v v end end
-moved-start v end = record { low = refl; high = part_none (suc end) v ∙ sym (part_none end v) }
-
 part-set : (v : List Cell) (i e : ℕ) (c : Cell) → i < e → part (suc i) e (set v i c) ≡ part (suc i) e v
 unfolding part
 part-set v i e c h = ap (drop (suc i)) (take-set-lt e v i c h) ∙ drop-set-lt (suc i) (take e v) i c (omega arith)
@@ -134,14 +123,6 @@ part_at v i e c h k =
     let n = length-set v i c in
     part-first (set v i c) i e h (omega arith) ∙ rw (get_or-set_same v i c d (omega arith), part-set v i e c h)
 
-step : (v₀ v : List Cell) (j end : ℕ) (c : Cell) → suc j ≤ end → end < length v → length v ≡ length v₀ → c ≡ get_or v j d → Moved v₀ v (suc j) end → Moved v₀ (set v (suc j) c) j end
-step v₀ v j end c h k l e m =
-    let same : get_or v j d ≡ get_or v₀ j d = sym (get_or-take (suc j) v j d (omega arith)) ∙ ap (λ (t : List Cell). get_or t j d) m.low ∙ get_or-take (suc j) v₀ j d (omega arith) in
-    record {
-      low = take-set-le j v (suc j) c (omega arith) ∙ sym (take-take j (suc j) v (omega arith)) ∙ ap (take j) m.low ∙ take-take j (suc j) v₀ (omega arith);
-      high = part_at v (suc j) (suc end) c (omega arith) (omega arith) ∙ rw (e, same, m.high) (sym (part-first v₀ j end (omega arith) (omega arith)));
-    }
-
 pub part-behind : (v s t : List Cell) (p e : ℕ) → length s ≡ p → take e v ≡ s ++ t → part p e v ≡ t
 unfolding part
 part-behind v s t p e n x = ap (drop p) x ∙ rw (← n) (drop-append_seam s t)
@@ -149,11 +130,6 @@ part-behind v s t p e n x = ap (drop p) x ∙ rw (← n) (drop-append_seam s t)
 pub take_part : (v : List Cell) (p e : ℕ) → p ≤ e → take e v ≡ take p v ++ part p e v
 unfolding part
 take_part v p e h = sym (take-append-drop p (take e v)) ∙ ap (λ (u : List Cell). u ++ drop p (take e v)) (take-take p e v h)
-
-pub moved-step : (v₀ v : List Cell) (i j end : ℕ) (c : Cell) → i ≡ suc j → i ≤ end → end < length v → length v ≡ length v₀ → c ≡ get_or v j d → Moved v₀ v i end → Moved v₀ (set v i c) j end
-moved-step v₀ v i j end c q h k l e m =
-    let g : suc j ≤ end = omega arith in
-    subst (λ (x : ℕ). Moved v₀ v x end → Moved v₀ (set v x c) j end) (sym q) (step v₀ v j end c g k l e) m
 
 pub inserts-here : (v₀ v : List Cell) (p end : ℕ) (c : Cell) → p ≤ end → end < length v → length v ≡ length v₀ → Moved v₀ v p end → Inserts v₀ p end (set v p c) (end + 1) c
 inserts-here v₀ v p end c h k l m = record {
@@ -188,18 +164,48 @@ inserts-full v p at r c out far up = record {
 pub cells-long : (bs ns : List ℕ) → length bs ≤ length ns → length (cells bs ns) ≡ length bs
 cells-long bs ns h = let a = cells-short bs ns in let b = cells-le bs ns (length bs) (omega arith) h in omega arith
 
-module _ (bs₀ ns₀ bs ns : List ℕ) (i end : ℕ) (wide : length bs ≤ length ns) (lb : length bs ≡ length bs₀) (ln : length ns ≡ length ns₀) (room : end < length bs)
-    (m : Moved (cells bs₀ ns₀) (cells bs ns) i end) where
-  pub insert-turn : 0 < i → i ≤ end → Moved (cells bs₀ ns₀) (cells (set bs i (get_or bs (i - 1) 0)) (set ns i (get_or ns (i - 1) 0))) (i - 1) end
-  insert-turn h k =
-      let l = cells-long bs ns wide in
-      let l₀ = cells-long bs₀ ns₀ (omega arith) in
-      rw (cells-set bs ns i (get_or bs (i - 1) 0) (get_or ns (i - 1) 0))
-      (moved-step (cells bs₀ ns₀) (cells bs ns) i (i - 1) end (cell (get_or bs (i - 1) 0) (get_or ns (i - 1) 0)) (omega arith) k (omega arith) (omega arith)
-      (sym (cells_at bs ns (i - 1) d (omega arith) (omega arith))) m)
+-- a list of which the elements from p up to e have moved up by one
+module _ (xs : List ℕ) (p e : ℕ) (h : p ≤ e) (k : e < length xs) where
+  shifted-take : take (suc e) (copy_within xs p e (p + 1)) ≡ take (p + 1) xs ++ take (e - p) (drop p xs)
+  shifted-take =
+      let z : suc e ≡ p + 1 + (e - p) = omega arith in
+      let l = length-drop p xs in
+      rw z (take-paste xs (p + 1) (drop p xs) (e - p) (omega arith) (omega arith))
 
-  pub insert-done : (b : ℕ) → i ≤ end → Inserts (cells bs₀ ns₀) i end (cells (set bs i b) (set ns i 0)) (end + 1) (sign b)
-  insert-done b h =
-      let l = cells-long bs ns wide in
-      let l₀ = cells-long bs₀ ns₀ (omega arith) in
-      rw (cells-set bs ns i b 0) (inserts-here (cells bs₀ ns₀) (cells bs ns) i end (cell b 0) h (omega arith) (omega arith) m)
+  shifted-low : take p (copy_within xs p e (p + 1)) ≡ take p xs
+  shifted-low =
+      let l = length-take-le (p + 1) xs (omega arith) in
+      sym (take-take p (suc e) (copy_within xs p e (p + 1)) (omega arith)) ∙ ap (take p) shifted-take ∙ take-append-le p (take (p + 1) xs) (take (e - p) (drop p xs)) (omega arith) ∙ take-take p (p + 1) xs (omega arith)
+
+  shifted-high : drop (suc p) (take (suc e) (copy_within xs p e (p + 1))) ≡ drop p (take e xs)
+  shifted-high =
+      let l = length-take-le (p + 1) xs (omega arith) in
+      ap (drop (suc p)) shifted-take ∙ drop_at (take (p + 1) xs) (take (e - p) (drop p xs)) (suc p) (omega arith) ∙ sym (drop-take p e xs)
+
+  shifted-length : length (copy_within xs p e (p + 1)) ≡ length xs
+  shifted-length = let l = length-drop p xs in length-paste xs (p + 1) (drop p xs) (e - p) (omega arith) (omega arith)
+
+module _ (bs ns : List ℕ) (p e : ℕ) (h : p ≤ e) (k : e < length bs) (wide : length bs ≤ length ns) where
+  abbrev bs₁ : List ℕ
+  bs₁ = copy_within bs p e (p + 1)
+
+  abbrev ns₁ : List ℕ
+  ns₁ = copy_within ns p e (p + 1)
+
+  moved : Moved (cells bs ns) (cells bs₁ ns₁) p e
+  unfolding part
+  moved = record {
+    low = sym (cells-taken p bs₁ ns₁) ∙ rw (shifted-low bs p e h k, shifted-low ns p e h (omega arith)) (cells-taken p bs ns);
+    high = sym (cells-of-part (suc p) (suc e) bs₁ ns₁) ∙ rw (shifted-high bs p e h k, shifted-high ns p e h (omega arith)) (cells-of-part p e bs ns);
+  }
+    where
+      cells-of-part : (a e : ℕ) (xs ys : List ℕ) → cells (drop a (take e xs)) (drop a (take e ys)) ≡ drop a (take e (cells xs ys))
+      cells-of-part a e xs ys = cells-dropped a (take e xs) (take e ys) ∙ ap (drop a) (cells-taken e xs ys)
+
+  pub insert-done : (b : ℕ) → Inserts (cells bs ns) p e (cells (set bs₁ p b) (set ns₁ p 0)) (e + 1) (sign b)
+  insert-done b =
+      let l = shifted-length bs p e h k in
+      let l₁ = shifted-length ns p e h (omega arith) in
+      let c = cells-long bs ns wide in
+      let c₁ = cells-long bs₁ ns₁ (omega arith) in
+      rw (cells-set bs₁ ns₁ p b 0) (inserts-here (cells bs ns) (cells bs₁ ns₁) p e (cell b 0) h (omega arith) (omega arith) moved)

@@ -12,22 +12,17 @@ use crate::class::is_braced;
 use crate::piece::{insert, is_even};
 use text::WorkAt;
 use text::area::put_sign_in;
-use text::scan::one_if;
 
 // The delimiter of a kind.
 pub fn delimiter_of(kind: u32) -> u8
     ensures { result ≡ delimiter (kind_numbered kind) }
 {
-    if kind == 0 {
-        return b'*';
+    match kind {
+        0 => b'*',
+        1 => b'/',
+        2 => b'_',
+        _ => b'~',
     }
-    if kind == 1 {
-        return b'/';
-    }
-    if kind == 2 {
-        return b'_';
-    }
-    b'~'
 }
 
 // Whether the mark whose body stands from place p up to `end` takes the braced form.
@@ -35,12 +30,10 @@ pub fn takes_braces(buf: &[u8], p: WorkAt, end: WorkAt, d: u8, before: usize, ne
     requires { ((p.0 < end.0) × (end.0 ≤ length buf.now)) × ((before ≤ 256) × (next ≤ 256)) }
     ensures { result ≡ braced d (get_or buf.now p.0 0) (get_or buf.now (end.0 - 1) 0) before next }
 {
-    let first = p.0;
-    let last = end.0 - 1;
     is_braced(
-        d as usize,
-        buf[first] as usize,
-        buf[last] as usize,
+        usize::from(d),
+        usize::from(buf[p.0]),
+        usize::from(buf[end.0 - 1]),
         before,
         next,
     )
@@ -51,11 +44,9 @@ pub fn escape_brace(buf: &mut [u8], nums: &mut [u32], p: WorkAt, at: WorkAt) -> 
     requires { ((p.0 < at.0) × (at.0 ≤ length buf.old)) × (length buf.old ≤ length nums.old) }
     ensures { Becomes (escape_last (is "{") true) (cells buf.old nums.old) p.0 at.0 (cells buf.new nums.new) result.0 }
 {
-    let last = at.0 - 1;
-    if buf[last] == b'{' {
-        if is_even(&buf[..], p, WorkAt(last)) {
-            return insert(buf, nums, WorkAt(last), at, b'\\');
-        }
+    let last = WorkAt(at.0 - 1);
+    if buf[last.0] == b'{' && is_even(&buf[..], p, last) {
+        return insert(buf, nums, last, at, b'\\');
     }
     at
 }
@@ -86,10 +77,8 @@ fn raise_spans(spans: &mut [u32], a: usize, e: usize, by: u32)
     requires { ((a ≤ e) × (e ≤ length spans.old)) × ((by ≤ 1) × Raisable spans.old a e) }
     ensures { take e spans.new ≡ take a spans.old ++ raised by (drop a (take e spans.old)) }
 {
-    let mut i = a;
-    while i < e {
-        spans[i] = spans[i] + by;
-        i += 1;
+    for x in &mut spans[a..e] {
+        *x += by;
     }
 }
 
@@ -147,9 +136,8 @@ fn finish(
             body.listed,
             body.start.0,
             to.0,
-            one_if(braces),
+            u32::from(braces),
         );
-        return Closed { to, braces };
     }
     Closed { to, braces }
 }

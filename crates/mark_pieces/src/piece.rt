@@ -16,17 +16,12 @@ pub fn is_even(s: &[u8], a: WorkAt, e: WorkAt) -> bool
     requires { (a.0 ≤ e.0) × (e.0 ≤ length s.now) }
     ensures { result ≡ even_run true (drop a.0 (take e.0 s.now)) }
 {
-    let first = a.0;
-    let mut even = true;
-    let mut i = e.0;
-    while first < i {
-        if s[i - 1] != b'\\' {
-            return even;
-        }
-        even = !even;
-        i -= 1;
-    }
-    even
+    let run = s[a.0..e.0]
+        .iter()
+        .rev()
+        .take_while(|b| **b == b'\\')
+        .count();
+    run % 2 == 0
 }
 
 // Whether a byte at the end of a text piece would be read together with a mark behind it.
@@ -61,12 +56,13 @@ fn copy_escaped(
     ensures { AppendsIn buf.old nums.old end at.0 buf.new nums.new result.0 (escaped_part escape a.0 e.0 (cells buf.old nums.old)) }
 {
     if escape {
-        let last = e.0 - 1;
-        let front = copy_back(buf, nums, a, WorkAt(last), end, at);
+        let last = WorkAt(e.0 - 1);
+        let front = copy_back(buf, nums, a, last, end, at);
         let behind = put_sign_in(buf, nums, end, front, b'\\');
-        return copy_back(buf, nums, WorkAt(last), e, end, behind);
+        copy_back(buf, nums, last, e, end, behind)
+    } else {
+        copy_back(buf, nums, a, e, end, at)
     }
-    copy_back(buf, nums, a, e, end, at)
 }
 
 // Whether a text piece from a on whose last byte stands at `last` takes a backslash before it. The backslashes are counted only where it does
@@ -75,13 +71,7 @@ fn escapes_last(src: &[u8], a: WorkAt, last: WorkAt, touches: bool) -> bool
     requires { (a.0 ≤ last.0) × (last.0 < length src.now) }
     ensures { result ≡ (touching touches (get_or src.now last.0 0) && even_run true (drop a.0 (take last.0 src.now))) }
 {
-    let i = last.0;
-    if touches {
-        if is_touching(true, src[i]) {
-            return is_even(src, a, last);
-        }
-    }
-    false
+    touches && is_touching(true, src[last.0]) && is_even(src, a, last)
 }
 
 // Appends a text piece that is not empty.
@@ -98,10 +88,8 @@ pub fn write_piece(
     requires { ((a.0 < e.0) × (end ≤ a.0)) × ((e.0 ≤ length buf.old) × (e.0 ≤ length nums.old)) }
     ensures { AppendsIn buf.old nums.old end at.0 buf.new nums.new result.0 (piece_text guarded touches (part a.0 e.0 (cells buf.old nums.old))) }
 {
-    let i = a.0;
-    let last = e.0 - 1;
-    let escape = escapes_last(&buf[..], a, WorkAt(last), touches);
-    let guards = guarded & (buf[i] == b'}');
+    let escape = escapes_last(&buf[..], a, WorkAt(e.0 - 1), touches);
+    let guards = guarded & (buf[a.0] == b'}');
     let start = put_backslash(buf, nums, end, at, guards);
     copy_escaped(buf, nums, a, e, escape, end, start)
 }
@@ -111,18 +99,12 @@ pub fn insert(buf: &mut [u8], nums: &mut [u32], p: WorkAt, at: WorkAt, b: u8) ->
     requires { (length buf.old ≤ length nums.old) × (p.0 ≤ at.0) }
     ensures { Inserts (cells buf.old nums.old) p.0 at.0 (cells buf.new nums.new) result.0 (sign b) }
 {
-    let first = p.0;
-    let end = at.0;
-    if buf.len() <= end {
+    if buf.len() <= at.0 {
         return WorkAt(FULL);
     }
-    let mut i = end;
-    while first < i {
-        buf[i] = buf[i - 1];
-        nums[i] = nums[i - 1];
-        i -= 1;
-    }
-    buf[first] = b;
-    nums[first] = RULE_SIGN;
-    WorkAt(end + 1)
+    buf.copy_within(p.0..at.0, p.0 + 1);
+    nums.copy_within(p.0..at.0, p.0 + 1);
+    buf[p.0] = b;
+    nums[p.0] = RULE_SIGN;
+    WorkAt(at.0 + 1)
 }

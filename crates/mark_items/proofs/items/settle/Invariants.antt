@@ -5,6 +5,3 @@ use Rattle.mark_items.proofs.items.settle.Given as goal
 
 abbrev pub invariant-loop-j : goal.invariant-loop-j
 invariant-loop-j l = (length l.nums ≡ length l.initial.nums) × Settling l.initial.nums l.nums l.n l.k l.j l.closes
-
-abbrev pub decreases-loop-j : goal.decreases-loop-j
-decreases-loop-j l = l.j

@@ -1,25 +1,18 @@
-use borrow.Author.Rules.{rules}
 use native.Mathlib.Omega.{arith}
-use mathlib.Core.Path.{◌≡◌, refl, sym, ap, ◌∙◌}
-use Prim.Native.Nat.{ℕ}
-use mathlib.Core.List.{◌++◌}
-use lib.ListN.{take, drop}
-use Rattle.mark_pieces.proofs.Listing.{mapping-start, mapping-turn}
+use mathlib.Core.Path.{ap, ◌∙◌}
+use mathlib.Core.List.{List, ◌++◌}
+use Prim.Native.Nat.{ℕ, ◌+◌}
+use lib.ListN.{take}
+use Rattle.std.specs.List.{between}
+use Rattle.std.proofs.lemmas.Slice.{between_is, take-put_mid}
 use Rattle.mark_pieces.specs.Spans.{raised}
+use Rattle.mark_pieces.proofs.Listing.{mapped-all}
 use Rattle.mark_pieces.proofs.mark.raise_spans.Goals as goal
 
-pub loop-i-init : goal.loop-i-init
-loop-i-init c = (search rules, refl, mapping-start _ _ _)
-
-pub overflow_add-spans : goal.overflow_add-spans
-overflow_add-spans c = let l = c.loop-i in let p = c.requires in let b = l.invariant.2.behind l.i (omega arith) in let f = l.invariant.2.from in let m = p.1.1 l.i (omega arith) (omega arith) in omega arith
-
-pub loop-i-preserved : goal.loop-i-preserved
-loop-i-preserved c = let l = c.loop-i in
-    (search rules, search rules, mapping-turn _ _ l.spans _ l.i (omega arith) l.invariant.1 l.invariant.2)
-
 pub returns : goal.returns
-returns c = let l = c.loop-i in
-    let a = c.args in
-    let z : l.i ≡ a.e = omega arith in
-    ap (λ (i : ℕ). take i l.spans) (sym z) ∙ l.invariant.2.done ∙ ap (λ (i : ℕ). take a.a a.spans.now ++ raised a.by (drop a.a (take i a.spans.now))) z
+returns c = let a = c.args in
+    let l = c.loop-x in
+    let s = between a.a a.e a.spans.now in
+    let m = mapped-all (λ (x : ℕ). x + a.by) s l.x-items l.x-index (omega arith) l.invariant.0 l.invariant.1 in
+    take-put_mid a.a _ a.spans.now l.x-items a.e (omega arith) (omega arith)
+    ∙ ap (λ (t : List ℕ). take a.a a.spans.now ++ t) (m ∙ ap (raised a.by) (between_is a.spans.now a.a a.e))

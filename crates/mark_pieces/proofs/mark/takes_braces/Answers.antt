@@ -2,11 +2,5 @@ use native.Mathlib.Omega.{arith}
 use Prim.Native.Nat.{◌-◌}
 use Rattle.mark_pieces.proofs.mark.takes_braces.Goals as goal
 
-pub overflow_cast-buf : goal.overflow_cast-buf
-overflow_cast-buf c = omega (arith, c.type_inv.buf c.args.p.0)
-
-pub overflow_cast-buf-2 : goal.overflow_cast-buf-2
-overflow_cast-buf-2 c = omega (arith, c.type_inv.buf (c.args.end.0 - 1))
-
 pub is_braced-requires : goal.is_braced-requires
 is_braced-requires c = let x = c.type_inv.buf c.args.p.0 in let y = c.type_inv.buf (c.args.end.0 - 1) in omega arith
