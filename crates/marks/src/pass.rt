@@ -19,9 +19,7 @@ pub fn write_marks(
     requires { MarksRoom n base.0 end (length work.old) (length numbers.old) }
     ensures { MarksWritten work.old numbers.old spans.old n base.0 end work.new numbers.new result.to.0 spans.new result.count }
 {
-    let first = base.0;
-    let past = first + n;
-    let items = read_items(&work[first..past], &mut numbers[first..]);
+    let items = read_items(&work[base.0..base.0 + n], &mut numbers[base.0..]);
     let w = Layout {
         base,
         size: n,
@@ -42,7 +40,5 @@ pub fn marks_pass(
     requires { MarksRoom n base.0 end (length work.old) (length numbers.old) }
     ensures { MarksPassed work.old numbers.old n base.0 end work.new numbers.new result.0 }
 {
-    let mut spans: [u32; 1] = [0; 1];
-    let went = write_marks(work, numbers, n, base, end, &mut spans);
-    went.to
+    write_marks(work, numbers, n, base, end, &mut [0]).to
 }

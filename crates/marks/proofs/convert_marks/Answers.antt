@@ -1,17 +1,16 @@
 use native.Mathlib.Omega.{arith}
-use mathlib.Core.Path.{refl, sym}
-use Rattle.lending.proofs.Sizes.{enough}
-use Rattle.marks.proofs.Conversion.{called-refused, called-fine, spans-enough}
+use mathlib.Core.Path.{sym}
+use Rattle.mark_tags.specs.Marks.{span_numbers}
+use Rattle.text.proofs.Clearing.{fill_cleared_all}
+use Rattle.marks.proofs.Conversion.{front-left, called-refused}
 use Rattle.marks.proofs.convert_marks.Goals as goal
 
-pub convert-requires : goal.convert-requires
-convert-requires c = let fine = sym c.in-Fine.ensures in
-    let h = enough _ _ fine in
-    let s = spans-enough _ _ _ _ _ _ fine in
-    omega arith
-
-pub returns-in-Refused : goal.returns-in-Refused
-returns-in-Refused c = called-refused _ _ _ _ _ _ _ _ c.in-Refused.ensures _ refl c.refuse.ensures.0 c.refuse.ensures.1
-
-pub returns-in-Fine : goal.returns-in-Fine
-returns-in-Fine c = called-fine _ _ _ _ _ _ _ _ c.in-Fine.ensures refl c.convert.ensures
+pub returns-then-is_err : goal.returns-then-is_err
+unfolding span_numbers
+returns-then-is_err c = let v = c.convert-answer in
+    let b₀ = v.auto.out in
+    let n₀ = v.auto.origins in
+    let s₀ = v.auto.spans in
+    let l = c.lay_nothing.ensures in
+    let z = front-left v.new.spans _ 0 (omega arith) (fill_cleared_all v.new.spans c.fill.new.self c.fill.ensures.after) in
+    called-refused _ _ _ _ _ _ _ (sym c.if-is_err.ensures.value) v.ensures (record { laid = rw (b₀, n₀) at l; listed = rw s₀ at z })
