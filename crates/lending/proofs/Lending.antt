@@ -1,14 +1,14 @@
 -- Laws of the refusals 3 and 4. Assumes nothing.
 use mathlib.Core.Path.{◌≡◌, refl, sym, ap, ◌∙◌}
-use mathlib.Core.Bool.{Bool, true, false, not, cond, ◌&&◌, ◌||◌}
+use mathlib.Core.Bool.{Bool, true, false, not, ◌&&◌, ◌||◌}
 use Prim.Native.Nat.{ℕ, zero, suc, ◌+◌, ◌-◌, ◌≤◌, ◌<◌}
-use native.Mathlib.Nat.{add-zero, le_of_suc-le-suc, not-suc-le-zero}
+use native.Mathlib.Nat.{add-zero}
 use native.Mathlib.Numerals.{add-one}
 use native.Mathlib.Omega.{arith}
-use mathlib.Core.List.{List, [], ◌∷◌}
-use lib.ListN.{length, drop, get_or, drop_of_length-le, length-drop, get_or-eq_default}
-use lib.Seq.{drop-cons, get_or-drop}
-use lib.Dec.{eqb, leb, ltb}
+use mathlib.Core.List.{List}
+use lib.ListN.{length, drop, get_or, drop_of_length-le, get_or-eq_default}
+use lib.Seq.{drop-cons}
+use lib.Dec.{leb, ltb}
 use borrow.Author.Tests.{ne_eqb, leb-false, ltb-true, ltb-false}
 use Rattle.text.specs.Ascii.{to_first}
 use Rattle.text.proofs.Bytes.{first-plain-at}
@@ -121,19 +121,10 @@ module _ (s : List ℕ) (i n : ℕ) (w : 128 ≤ get_or s i 0) (e : n ≡ char_s
   pub clean-char : clean (drop i s) ≡ clean (drop (i + n) s)
   clean-char = rw (utf8-turn s i n (wide-within s i w) e z, any-wide s n i wide)
 
--- flags of the first bytes of a text: the first flag that is 1 stands no further than the first byte that it is for
-pub flags-first : (p : ℕ → Bool) (flags s : List ℕ) → length flags ≤ length s → ((k : ℕ) → k < length flags → get_or flags k 0 ≡ cond (p (get_or s k 0)) 1 0) → to_first (λ x. eqb x 1) flags ≤ to_first p s
-unfolding to_first
-flags-first p [] s le h = omega arith
-flags-first p (f ∷ flags) [] le h = absurd (not-suc-le-zero le)
-flags-first p (f ∷ flags) (b ∷ s) le h = by (p b) (h 0 (omega arith)) (flags-first p flags s (le_of_suc-le-suc le) (λ k l. h (suc k) (omega arith)))
+-- a character of any bytes stands within its text
+pub char-fits : (s : List ℕ) (i n : ℕ) → i < length s → n ≡ char_size (drop i s) → 0 < n → i + n ≤ length s
+char-fits s i n h e z = by (ltb (get_or s i 0) 128) refl
   where
-    by : (t : Bool) → f ≡ cond t 1 0 → to_first (λ x. eqb x 1) flags ≤ to_first p s → cond (eqb f 1) 0 (suc (to_first (λ x. eqb x 1) flags)) ≤ cond t 0 (suc (to_first p s))
-    by true e z = rw e (omega arith)
-    by false e z = rw e (omega (arith, z))
-
-pub odd-first : (s : List ℕ) (i : ℕ) (flags : List ℕ) → i + 16 ≤ length s → length flags ≡ 16 → ((k : ℕ) → k < 16 → get_or flags k 0 ≡ cond (odd (get_or s (i + k) 0)) 1 0)
-    → to_first (λ x. eqb x 1) flags ≤ to_first odd (drop i s)
-odd-first s i flags le e h =
-    let d = length-drop i s in
-    flags-first odd flags (drop i s) (omega (arith, d)) (λ k l. h k (omega arith) ∙ ap (λ (b : ℕ). cond (odd b) 1 0) (sym (get_or-drop i s k 0)))
+    by : (t : Bool) → ltb (get_or s i 0) 128 ≡ t → i + n ≤ length s
+    by true k = let one = ascii-char s i (ltb-true (get_or s i 0) 128 k) in omega (arith, e, one)
+    by false k = char-within s i n (ltb-false (get_or s i 0) 128 k) e (λ (o : n ≡ 0). omega (arith, o, z))

@@ -1,3 +1,4 @@
 pub mod Characters
 pub mod Lending
+pub mod Lanes
 pub mod Sizes

@@ -3,9 +3,10 @@
 --   utf8-1 to utf8-4     the bytes are one UTF8-1, UTF8-2, UTF8-3, UTF8-4
 --   size a b c d         how many of the bytes a b c d are one UTF8-char, 0 where none is
 --   char_size s           of the first character of s; past the end stands 0, which is no tail
+--   IsSize n r           r is that size as code has it
 --   utf8 s               s is UTF8-octets = *( UTF8-char )
 -- Assumes nothing.
-use Rattle.std.specs.Prelude.{ℕ, zero, suc, ◌-◌, Bool, true, false, cond, ◌&&◌, ◌||◌, List, [], ◌∷◌, get_or, eqb}
+use Rattle.std.specs.Prelude.{◌≡◌, ◌<◌, Option, MatchOption, ℕ, zero, suc, ◌-◌, Bool, true, false, cond, ◌&&◌, ◌||◌, List, [], ◌∷◌, get_or, eqb}
 use Rattle.text.specs.Ascii.{inside}
 
 unfoldable pub tail : ℕ → Bool
@@ -35,6 +36,10 @@ size a b c d = cond (utf8-1 a) 1 (cond (utf8-2 a b) 2 (cond (utf8-3 a b c) 3 (co
 
 unfoldable pub char_size : List ℕ → ℕ
 char_size s = size (get_or s 0 0) (get_or s 1 0) (get_or s 2 0) (get_or s 3 0)
+
+-- n as code has it: none where it is 0
+abbrev pub IsSize : (n : ℕ) → Option ℕ → Type 0
+IsSize n r = MatchOption r (n ≡ 0) (λ k. (k ≡ n) × (0 < k))
 
 -- the same of a text whose first `skip` bytes are the rest of a character
 unfoldable pub utf8_after : (skip : ℕ) → List ℕ → Bool

@@ -1,13 +1,14 @@
 // What is lent, and the refusals 1 to 4 that every operation on a text begins with (document 01, "Lent memory and turned-back calls").
-ghost use Rattle.std.specs.Prelude.{◌≡◌, not, cond, ◌&&◌, ◌||◌, ℕ, ◌+◌, ◌≤◌, ◌<◌, length, get_or, drop, leb};
+ghost use Rattle.std.specs.Prelude.{◌≡◌, not, cond, ◌&&◌, ◌||◌, ℕ, ◌+◌, ◌≤◌, ◌<◌, length, drop, map, leb};
+ghost use Rattle.std.specs.Simd.Lanes.{mask_l};
 ghost use Rattle.text.specs.Ascii.{to_first};
 ghost use Rattle.text.specs.Bounds.{text_most};
 ghost use Rattle.lending.specs.Utf8.{utf8};
 ghost use Rattle.lending.specs.Lent.{number_of, sizes_right, zero_or_return, any_zero_or_return, checked};
 
 use crate::utf8::{char_size, is_utf8};
+use std::simd::prelude::*;
 use text::bounds::{OUT_MOST, TEXT_MOST, numbers_size, work_size};
-use text::scan::{first_in_16, stands_in_16};
 
 // Why a call is turned back; the numbers are document 01's.
 #[derive(Clone, Copy, Debug, PartialEq, Eq)]
@@ -59,43 +60,25 @@ fn is_zero_or_return(b: u8) -> bool
     (b == 0) | (b == 13)
 }
 
-// 1 for an odd byte, which is 0, 13 or not ASCII, else 0.
-fn odd_flag(b: u8) -> u8
-    ensures { result ≡ cond (leb 128 b || zero_or_return b) 1 0 }
+// Which of 16 bytes are odd, which is 0, 13 or not ASCII: one bit each, the first byte's the lowest.
+fn odd_bits(block: u8x16) -> u64
+    ensures { result ≡ mask_l (map (λ x. leb 128 x || zero_or_return x) block) }
 {
-    if (128 <= b) | is_zero_or_return(b) {
-        return 1;
-    }
-    0
+    (block.simd_ge(u8x16::splat(128))
+        | block.simd_eq(u8x16::splat(0))
+        | block.simd_eq(u8x16::splat(13))).to_bitmask()
 }
 
-// Sets the first 16 flags, for the bytes from i on.
-fn set_odd(s: &[u8], i: usize, flags: &mut [u8])
-    requires { (i + 16 ≤ length s.now) × (16 ≤ length flags.old) }
-    ensures { (k : ℕ) → k < 16 → get_or flags.new k 0 ≡ cond (leb 128 (get_or s.now (i + k) 0) || zero_or_return (get_or s.now (i + k) 0)) 1 0 }
-{
-    let mut k: usize = 0;
-    while k < 16 {
-        flags[k] = odd_flag(s[i + k]);
-        k += 1;
-    }
-}
-
-// How many of the 16 bytes from i on stand before the first odd one; 16 where none is odd. The flags are in an array, so that all 16 are found at once
-// where the machine can.
+// How many of the 16 bytes from i on stand before the first odd one; 16 where none is odd.
 fn before_odd(s: &[u8], i: usize) -> usize
     requires { i + 16 ≤ length s.now }
     ensures { (result ≤ 16) × (result ≤ to_first (λ x. leb 128 x || zero_or_return x) (drop i s.now)) }
 {
-    let mut flags: [u8; 16] = [0; 16];
-    set_odd(s, i, &mut flags);
-    if stands_in_16(&flags, 0, 1) {
-        return first_in_16(&flags, 0, 1);
-    }
-    16
+    let odd = odd_bits(u8x16::from_slice(&s[i..]));
+    odd.trailing_zeros().min(16) as usize
 }
 
-// Past bytes from a place on none of which is odd, in blocks of 16.
+// Past bytes from a place on none of which is odd. A while: blocks of 16, and what is left of the last.
 fn past_clean(s: &[u8], at: usize) -> usize
     requires { at ≤ length s.now }
     ensures { (at ≤ result) × (result ≤ length s.now) × ((utf8 (drop at s.now) && not (any_zero_or_return (drop at s.now))) ≡ (utf8 (drop result s.now) && not (any_zero_or_return (drop result s.now)))) }
@@ -112,12 +95,12 @@ fn past_clean(s: &[u8], at: usize) -> usize
 }
 
 // Whether neither refusal 3 nor 4 applies. Where a block is odd, its characters are read one by one, up to e: at most past its first
-// character of more bytes than one.
+// character of more bytes than one. A while: the steps differ.
 fn is_clean(s: &[u8]) -> bool
     ensures { result ≡ (utf8 s.now && not (any_zero_or_return s.now)) }
 {
-    let mut i: usize = 0;
-    let mut e: usize = 0;
+    let mut i = 0;
+    let mut e = 0;
     while i < s.len() {
         if e <= i {
             i = past_clean(s, i);
@@ -130,10 +113,9 @@ fn is_clean(s: &[u8]) -> bool
                 }
                 i += 1;
             } else {
-                let n = char_size(s, i);
-                if n == 0 {
+                let Some(n) = char_size(s, i) else {
                     return false;
-                }
+                };
                 i += n;
                 e = i;
             }

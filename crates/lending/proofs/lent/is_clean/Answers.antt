@@ -1,7 +1,7 @@
 use borrow.Author.Rules.{rules}
 use native.Mathlib.Omega.{arith}
-use mathlib.Core.Path.{refl, sym, ◌∙◌}
-use Rattle.lending.proofs.Lending.{clean_end, clean-odd, clean-one, clean-bad, char-within, clean-char}
+use mathlib.Core.Path.{◌≡◌, refl, sym, ◌∙◌}
+use Rattle.lending.proofs.Lending.{clean_end, clean-odd, clean-one, clean-bad, char-fits, clean-char}
 use Rattle.lending.proofs.lent.is_clean.Goals as goal
 
 pub loop-i-init : goal.loop-i-init
@@ -19,28 +19,30 @@ pub loop-i-preserved-then-b-lt128 : goal.loop-i-preserved-then-b-lt128
 loop-i-preserved-then-b-lt128 c = let l = c.loop-i in
     (search rules, l.invariant.1 ∙ clean-one _ l.i (omega arith) c.if-b-lt128.true (sym c.is_zero_or_return.ensures ∙ c.if-is_zero_or_return.false))
 
-pub returns-then-n-eq0 : goal.returns-then-n-eq0
-returns-then-n-eq0 c = let n = c.char_size-n in
-    let l = c.loop-i in
-    sym (l.invariant.1 ∙ clean-bad _ l.i n.result (omega arith) n.ensures c.if-n-eq0.true)
+pub returns-in_default : goal.returns-in_default
+returns-in_default c = let l = c.loop-i in
+    sym (l.invariant.1 ∙ clean-bad _ l.i 0 c.loop-i-test.true (sym c.in_default.ensures) refl)
 
 pub overflow_add-i-else-b-lt128 : goal.overflow_add-i-else-b-lt128
-overflow_add-i-else-b-lt128 c = let n = c.char_size-n in
-    let l = c.loop-i in
-    let w = char-within _ l.i n.result c.if-b-lt128.false n.ensures c.if-n-eq0.false in
+overflow_add-i-else-b-lt128 c = let l = c.loop-i in
+    let n = c.in-Some.n in
+    let e = c.in-Some.ensures in
+    let w = char-fits _ l.i n c.loop-i-test.true e.0 e.1 in
     omega arith
 
 pub loop-i-smaller : goal.loop-i-smaller
-loop-i-smaller c = let n = c.char_size-n in
-    let l = c.loop-i in
-    let w = char-within _ l.i n.result c.if-b-lt128.false n.ensures c.if-n-eq0.false in
+loop-i-smaller c = let l = c.loop-i in
+    let n = c.in-Some.n in
+    let e = c.in-Some.ensures in
+    let w = char-fits _ l.i n c.loop-i-test.true e.0 e.1 in
     omega arith
 
 pub loop-i-preserved : goal.loop-i-preserved
-loop-i-preserved c = let n = c.char_size-n in
-    let l = c.loop-i in
-    let w = char-within _ l.i n.result c.if-b-lt128.false n.ensures c.if-n-eq0.false in
-    (w, l.invariant.1 ∙ clean-char _ l.i n.result c.if-b-lt128.false n.ensures c.if-n-eq0.false)
+loop-i-preserved c = let l = c.loop-i in
+    let n = c.in-Some.n in
+    let e = c.in-Some.ensures in
+    let w = char-fits _ l.i n c.loop-i-test.true e.0 e.1 in
+    (w, l.invariant.1 ∙ clean-char _ l.i n c.if-b-lt128.false e.0 (λ (z : n ≡ 0). omega (arith, z, e.1)))
 
 pub returns : goal.returns
 returns c = let l = c.loop-i in

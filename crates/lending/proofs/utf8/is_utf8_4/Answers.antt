@@ -1,15 +1,7 @@
-use Rattle.lending.specs.Utf8.{utf8-4, tail}
-use Rattle.text.proofs.Decide.{asked}
+use Rattle.std.proofs.Math.Bool.{or_assoc}
+use Rattle.lending.specs.Utf8.{utf8-4}
 use Rattle.lending.proofs.utf8.is_utf8_4.Goals as goal
 
-pub returns-then-is_four : goal.returns-then-is_four
-unfolding utf8-4 tail
-returns-then-is_four c = search asked depth 24 fits 20000
-
-pub returns-then-is_four-2 : goal.returns-then-is_four-2
-unfolding utf8-4 tail
-returns-then-is_four-2 c = search asked depth 24 fits 20000
-
 pub returns : goal.returns
-unfolding utf8-4 tail
-returns c = search asked depth 24 fits 20000
+unfolding utf8-4
+returns c = simp (or_assoc, c.is_inside.ensures, c.is_inside-2.ensures, c.is_inside-3.ensures, c.is_inside-4.ensures, c.is_inside-5.ensures, c.is_tail.ensures, c.is_tail-2.ensures, c.is_tail-3.ensures, c.is_tail-4.ensures, c.is_tail-5.ensures, c.is_tail-6.ensures, c.is_tail-7.ensures)
