@@ -1,13 +1,15 @@
 // A writer: it appends cells to an area of a longer pair of slices, from a place `at` up to a place `end`; nothing before and nothing behind the area changes.
 // What stands before or behind it is a source: its cells can be appended too. Where a text does not fit, the place goes past every end and stays there.
-ghost use Rattle.std.specs.Prelude.{◌≡◌, [], ◌∷◌, map, ◌≤◌, length, leb};
+ghost use Rattle.std.specs.Prelude.{◌≡◌, [], ◌∷◌, map, ◌+◌, ◌≤◌, ◌<◌, length, leb};
 ghost use Rattle.text.specs.Cells.{cell, cells, part, written, feed, sign};
 ghost use Rattle.text.specs.Decimal.{decimal};
+ghost use Rattle.text.specs.Lines.{trim_start, trim_end, all_blank, lines};
 ghost use Rattle.text.specs.Writes.{Apart, cut};
 
 use crate::WorkAt;
 use crate::area::{copy_back, copy_within, put_in, put_text_in, put_within};
 use crate::cell::{RULE_BLANK, RULE_SIGN};
+use crate::trim::{all_blank, line_end, trim_end, trim_start};
 
 #[derive(Drop)]
 pub struct Writer<'a> {
@@ -91,6 +93,45 @@ impl Writer<'_> {
         }
         self.put_decimal(n / 10);
         self.put_sign((48 + n % 10) as u8);
+    }
+
+    // The bytes of the pair.
+    pub fn source(&self) -> &[u8]
+        ensures { result.now ≡ self.now.bytes.now }
+    {
+        self.bytes
+    }
+
+    // The first place from a on, before e, whose cell is not blank, or e.
+    pub fn trim_start(&self, a: WorkAt, e: WorkAt) -> WorkAt
+        requires { (a.0 ≤ e.0) × ((e.0 ≤ length self.now.bytes.now) × (e.0 ≤ length self.now.numbers.now)) }
+        ensures { (a.0 ≤ result.0) × ((result.0 ≤ e.0) × (part result.0 e.0 (cells self.now.bytes.now self.now.numbers.now) ≡ trim_start (part a.0 e.0 (cells self.now.bytes.now self.now.numbers.now)))) }
+    {
+        trim_start(self.bytes, self.numbers, a, e)
+    }
+
+    // The place behind the last cell that is not blank, from a up to e, or a.
+    pub fn trim_end(&self, a: WorkAt, e: WorkAt) -> WorkAt
+        requires { (a.0 ≤ e.0) × ((e.0 ≤ length self.now.bytes.now) × (e.0 ≤ length self.now.numbers.now)) }
+        ensures { (a.0 ≤ result.0) × ((result.0 ≤ e.0) × (part a.0 result.0 (cells self.now.bytes.now self.now.numbers.now) ≡ trim_end (part a.0 e.0 (cells self.now.bytes.now self.now.numbers.now)))) }
+    {
+        trim_end(self.bytes, self.numbers, a, e)
+    }
+
+    // Whether all cells from a up to e are blank.
+    pub fn all_blank(&self, a: WorkAt, e: WorkAt) -> bool
+        requires { (a.0 ≤ e.0) × ((e.0 ≤ length self.now.bytes.now) × (e.0 ≤ length self.now.numbers.now)) }
+        ensures { result ≡ all_blank (part a.0 e.0 (cells self.now.bytes.now self.now.numbers.now)) }
+    {
+        all_blank(self.bytes, self.numbers, a, e)
+    }
+
+    // The place of the first line feed from a on, or e.
+    pub fn line_end(&self, a: WorkAt, e: WorkAt) -> WorkAt
+        requires { (a.0 < e.0) × ((e.0 ≤ length self.now.bytes.now) × (e.0 ≤ length self.now.numbers.now)) }
+        ensures { (a.0 ≤ result.0) × ((result.0 ≤ e.0) × (lines (part a.0 e.0 (cells self.now.bytes.now self.now.numbers.now)) ≡ part a.0 result.0 (cells self.now.bytes.now self.now.numbers.now) ∷ lines (part (result.0 + 1) e.0 (cells self.now.bytes.now self.now.numbers.now)))) }
+    {
+        line_end(self.bytes, self.numbers, a, e)
     }
 
     // Whether what was appended fits.
