@@ -1,7 +1,7 @@
 -- Laws of writing into an area of work memory, where the text and its items stand behind it. Assumes nothing.
 use mathlib.Core.Path.{◌≡◌, refl, sym, ap, ◌∙◌, subst}
 use mathlib.Core.List.{List}
-use mathlib.Core.Bool.{Bool, true, false}
+use mathlib.Core.Bool.{Bool, false}
 use Prim.Native.Nat.{ℕ, ◌+◌, ◌-◌, ◌*◌, ◌≤◌, ◌<◌}
 use native.Mathlib.Omega.{arith}
 use lib.ListN.{length, take, drop, get_or, length-drop}
@@ -10,13 +10,14 @@ use Rattle.text.specs.Cells.{Cell, cells, part}
 use Rattle.text.specs.Writes.{Appends, AppendsIn}
 use Rattle.text.proofs.Areas.{drop-take}
 use Rattle.text.proofs.Sources.{cells-taken, cells-dropped}
-use Rattle.mark_tags.specs.Marks.{Items, text, content, next, piece_text, last_or, absent}
-use Rattle.mark_tags.specs.Flat.{bound_at, within, depth_of, slot_at, Held, Ready, NextIs}
+use Rattle.mark_tags.specs.Marks.{Items, Next, text, next, piece_text, last_or, absent}
+use Rattle.mark_tags.specs.Flat.{bound_at, within, depth_of, slot_at, Held, Ready}
 use Rattle.mark_pieces.specs.Spans.{Slot, SlotWritten, MarkReady, MarkWritten}
 use Rattle.mark_pieces.specs.Behind.{Behind}
 use Rattle.mark_writing.specs.Laid.{source, table, area, Lies, TableIn, HeldIn}
 use Rattle.mark_writing.specs.Looked.{Skips, skips-gone, skips-nothing, skips-empty, Piece, Looked}
 use Rattle.mark_writing.specs.OneText.{OneText}
+use Rattle.mark_writing.specs.declared.look.Seen.{Seen}
 use Rattle.mark_writing.specs.declared.slot.Layout.{Layout}
 use Rattle.mark_writing.proofs.OneTextLaws.{in_source, text-written}
 use Rattle.mark_writing.proofs.Slotting.{spelled, bounds, at-text, front-within}
@@ -112,8 +113,11 @@ both {src} {src'} {ns} {ns'} P e f p = subst (λ (l : List ℕ). P l ns') e (sub
 pub code-as : {src src' ns ns' : List ℕ} (i : ℕ) → src ≡ src' → ns ≡ ns' → get_or ns (2 * length src + 2 + i) 0 ≡ get_or ns' (2 * length src' + 2 + i) 0
 code-as {src} {src'} {ns} {ns'} i e f = both (λ s n. get_or ns (2 * length src + 2 + i) 0 ≡ get_or n (2 * length s + 2 + i) 0) e f refl
 
-pub next-as : {src src' ns ns' : List ℕ} {r : ℕ} (k i : ℕ) → src ≡ src' → ns ≡ ns' → NextIs (next (within (slot_at src ns k i))) r → NextIs (next (within (slot_at src' ns' k i))) r
-next-as {src} {src'} {ns} {ns'} {r} k i e f p = both (λ s n. NextIs (next (within (slot_at s n k i))) r) e f p
+pub next-as : {src src' ns ns' : List ℕ} {n : Next} (k i : ℕ) → src ≡ src' → ns ≡ ns' → n ≡ next (within (slot_at src ns k i)) → n ≡ next (within (slot_at src' ns' k i))
+next-as {src} {src'} {ns} {ns'} {n} k i e f p = both (λ s t. n ≡ next (within (slot_at s t k i))) e f p
+
+pub looked-as : {src src' ns ns' : List ℕ} (k i : ℕ) (x : Seen) → src ≡ src' → ns ≡ ns' → Looked src ns k i x → Looked src' ns' k i x
+looked-as k i x e f p = both (λ s n. Looked s n k i x) e f p
 
 module _ {src src' ns ns' : List ℕ} {k : ℕ} (e : src ≡ src') (f : ns ≡ ns') where
   pub held-as : Held src ns k → Held src' ns' k
@@ -124,9 +128,6 @@ module _ {src src' ns ns' : List ℕ} {k : ℕ} (e : src ≡ src') (f : ns ≡ n
 
   pub one-text-as : {from : ℕ} → OneText src ns k from → OneText src' ns' k from
   one-text-as {from} p = both (λ s n. OneText s n k from) e f p
-
-  pub looked-as : {i what a b : ℕ} {touches : Bool} {last item : ℕ} → Looked src ns k i what a b touches last item → Looked src' ns' k i what a b touches last item
-  looked-as {i} {what} {a} {b} {touches} {last} {item} p = both (λ s n. Looked s n k i what a b touches last item) e f p
 
   pub slot-as : {from mask : ℕ} {out org : List ℕ} {c : ℕ} → Slot src ns k from mask out org c → Slot src' ns' k from mask out org c
   slot-as {from} {mask} {out} {org} {c} p = both (λ s n. Slot s n k from mask out org c) e f p
@@ -149,19 +150,6 @@ text-ready {src} {ns} {k} {i} {depth} r h e =
     let z = ap within (at-text src ns k i h e) ∙ front-within (text (spelled src ns k i h)) (slot_at src ns k (i + 1)) in
     let d : depth_of (text (spelled src ns k i h) (within (slot_at src ns k (i + 1)))) ≤ depth = subst (λ (x : Items). depth_of x ≤ depth) z r.deep in
     record { table = r.table; up_to = omega arith; deep = d }
-
-module _ {src ns : List ℕ} {k i what a e : ℕ} {touches : Bool} {last item : ℕ} where
-  pub looked-leave : what ≡ 0 → get_or ns (2 * length src + 2 + i) 0 ≡ 2 → Looked src ns k i what a e touches last item
-  looked-leave w h = record { leave = λ _. h; text = λ x. absurd (omega arith); skip = λ x. absurd (omega arith); mark = λ x. absurd (omega arith) }
-
-  pub looked-text : what ≡ 1 → Piece src ns k i a e touches last → Looked src ns k i what a e touches last item
-  looked-text w h = record { leave = λ x. absurd (omega arith); text = λ _. h; skip = λ x. absurd (omega arith); mark = λ x. absurd (omega arith) }
-
-  pub looked-skip : (j : ℕ) → what ≡ 2 → item ≡ j → Skips src ns k i j → Looked src ns k i what a e touches last item
-  looked-skip j w z h = record { leave = λ x. absurd (omega arith); text = λ x. absurd (omega arith); skip = λ _. subst (λ (x : ℕ). Skips src ns k i x) (sym z) h; mark = λ x. absurd (omega arith) }
-
-  pub looked-mark : what ≡ 3 → 4 ≤ get_or ns (2 * length src + 2 + i) 0 → content (within (slot_at src ns k (i + 1))) ≡ true → Looked src ns k i what a e touches last item
-  looked-mark w h z = record { leave = λ x. absurd (omega arith); text = λ x. absurd (omega arith); skip = λ x. absurd (omega arith); mark = λ _. (h, z) }
 
 pub piece_inside : {src ns : List ℕ} {k i a e : ℕ} {touches : Bool} {last : ℕ} → Held src ns k → i < k → Piece src ns k i a e touches last → e ≤ length src
 unfolding bound_at

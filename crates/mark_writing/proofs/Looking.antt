@@ -1,14 +1,13 @@
 -- Laws of the loops that look through a slot: whether it has content, and what is written next. Assumes nothing.
-use mathlib.Core.Path.{◌≡◌, refl, sym, ap, ◌∙◌, subst}
+use mathlib.Core.Path.{◌≡◌, refl, sym, ap, ◌∙◌}
 use mathlib.Core.List.{List, []}
 use mathlib.Core.Bool.{true}
 use Prim.Native.Nat.{ℕ, suc, ◌+◌, ◌-◌, ◌%◌, ◌≤◌, ◌<◌, max}
 use native.Mathlib.Omega.{arith}
-use borrow.Author.Tests.{ne_eqb}
 use lib.ListN.{length, get_or}
 use Rattle.text.specs.Cells.{Cell}
-use Rattle.mark_tags.specs.Marks.{Kind, text, mark, Slots, front, content, Next, nothing, a_byte, a-mark, next}
-use Rattle.mark_tags.specs.Flat.{within, beyond, depth_of, bound_at, slot_at, kind_numbered, Ready, Empty, Answer, NextIs}
+use Rattle.mark_tags.specs.Marks.{Kind, text, mark, Slots, front, content, nothing, a_byte, a-mark, next}
+use Rattle.mark_tags.specs.Flat.{within, beyond, depth_of, bound_at, slot_at, kind_numbered, Ready, Empty}
 use Rattle.mark_writing.proofs.Slotting.{code, spelled, front-within, front-beyond, around-within, around-beyond, at-text, at-leave, at-gone, at_mark, at-end, no_text, some-text}
 
 -- the loop at item i of the slot that starts at `at`
@@ -126,21 +125,3 @@ module _ (src ns : List ℕ) (k at depth i : ℕ) (h : Here src ns k at depth i)
             coming = ap (λ (o : Slots). next (within o)) c.behind ∙ sym (ap next marked ∙ rw c.none) ∙ h.coming;
             around-it = ap beyond c.behind ∙ sym (ap beyond (at_mark src ns k i q four) ∙ around-beyond kind (slot_at src ns k (i + 1))) ∙ h.around-it;
           }
-
-pub answer-some : (src ns : List ℕ) (k at : ℕ) → content (within (slot_at src ns k at)) ≡ true → Answer src ns k at 0
-answer-some src ns k at h = record { some = λ z. h; empty = λ j e. absurd (omega arith) }
-
-pub answer-empty : (src ns : List ℕ) (k at j r : ℕ) → r ≡ suc j → Empty src ns k at j → Answer src ns k at r
-answer-empty src ns k at j r e h =
-    record { some = λ z. absurd (omega arith); empty = λ i f. (let g : j ≡ i = omega arith in subst (λ (n : ℕ). Empty src ns k at n) g h) }
-
--- ---- what is written next, as a number
-
-pub next-nothing : (n : Next) → n ≡ nothing → NextIs n 256
-next-nothing n e = rw e (record { number = refl; touches = refl; small = omega arith })
-
-pub next-mark : (n : Next) → n ≡ a-mark → NextIs n 257
-next-mark n e = rw e (record { number = refl; touches = refl; small = omega arith })
-
-pub next-byte : (n : Next) (a : ℕ) → n ≡ a_byte a → a < 256 → NextIs n a
-next-byte n a e h = rw e (record { number = refl; touches = ne_eqb a 257 (λ z. omega arith); small = omega arith })

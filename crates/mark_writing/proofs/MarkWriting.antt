@@ -16,13 +16,13 @@ use Rattle.text.specs.Writes.{Holds, Appends}
 use Rattle.text.proofs.Writing.{holds_fits, appends-then, part-snoc}
 use Rattle.text.proofs.Clearing.{cells-bytes}
 use Rattle.mark_tags.specs.Marks.{Kind, bold, italic, underline, strike, Items, end, text, gone, mark, Slots, Span, Written, shift, ◌▹◌, content, Next, next, next_byte, State, start, text_step, piece_text, touching, marked, mark_step, wrap, wrap_text, opening, closing, delimiter, braced, first_or, last_or, absent, backslash, escape_last, write, span_numbers}
-use Rattle.mark_tags.specs.Flat.{within, beyond, slot_at, kind_numbered, NextIs, behind_brace}
+use Rattle.mark_tags.specs.Flat.{within, beyond, slot_at, kind_numbered, behind_brace}
 use Rattle.mark_pieces.specs.Spans.{raised, marks_in, Finished, SlotWritten, mark_at, MarkReady, MarkWritten, Finishable}
 use Rattle.mark_pieces.proofs.Pieces.{cells-long}
 use Rattle.mark_writing.proofs.Drawing.{appends-end, shift-shift}
 use Rattle.mark_writing.specs.Bodied.{Bodied}
 use Rattle.mark_writing.proofs.SlotWriting.{one_more}
-use Rattle.mark_writing.proofs.SlotAsking.{next-is, last-small}
+use Rattle.mark_writing.proofs.SlotAsking.{last-small}
 
 -- ---- how many spans
 
@@ -385,14 +385,14 @@ module _ {src ns : List ℕ} {k mask before d at : ℕ} {out₂ org₂ : List �
     unfolding mark_step
     guard-is = refl
 
-    pub mark-written : (out₃ org₃ : List ℕ) (to : ℕ) (ss₃ : List ℕ) (br : Bool) (r nx before' : ℕ) (guarded' : Bool) → length out₃ ≡ length out₂ → length org₃ ≡ length org₂ → length ss₃ ≡ length ss₂
-        → NextIs (next (within (slot_at src ns k item))) r → nx ≡ cond (eqb r 257) 123 r
+    pub mark-written : (out₃ org₃ : List ℕ) (to : ℕ) (ss₃ : List ℕ) (br : Bool) (n : Next) (nx before' : ℕ) (guarded' : Bool) → length out₃ ≡ length out₂ → length org₃ ≡ length org₂ → length ss₃ ≡ length ss₂
+        → n ≡ next (within (slot_at src ns k item)) → nx ≡ next_byte n
         → Finished out₂ org₂ at e ss₂ c c₂ d before nx out₃ org₃ to ss₃ br → before' ≡ cond br 125 d → guarded' ≡ (not br && is "{" before)
         → MarkWritten src ns k m.i before m.v at m.spans c (cells out₃ org₃) to ss₃ c₂ item before' guarded'
-    mark-written out₃ org₃ to ss₃ br r nx before' guarded' lo₃ lg₃ ls₃ ni ne fin eb eg =
+    mark-written out₃ org₃ to ss₃ br n nx before' guarded' lo₃ lg₃ ls₃ ni ne fin eb eg =
         let l = long in
         let l₃ = cells-kept out₂ org₂ out₃ org₃ lo₃ lg₃ m.ready.slot.wide ∙ m.same in
-        let en : nx ≡ next_byte (next (within (beyond (slot_at src ns k (m.i + 1))))) = next-is _ r nx (subst (λ (o : Slots). NextIs (next (within o)) r) m.body.behind ni) ne in
+        let en : nx ≡ next_byte (next (within (beyond (slot_at src ns k (m.i + 1))))) = ne ∙ ap next_byte (ni ∙ ap (λ (o : Slots). next (within o)) m.body.behind) in
         let f = m.body.forward in
         let z = ended in
         let isform : br ≡ form = fin.form ∙ rw (first-there, last-there, en, m.delimits) in

@@ -5,16 +5,18 @@ use mathlib.Core.Bool.{false}
 use Prim.Native.Nat.{ℕ, ◌+◌, ◌*◌, ◌≤◌, ◌<◌}
 use native.Mathlib.Omega.{arith}
 use lib.ListN.{length, get_or}
+use Rattle.std.specs.Prelude.{None}
 use Rattle.text.specs.Cells.{Cell, cells, part}
 use Rattle.text.specs.Writes.{Appends}
 use Rattle.text.proofs.Writing.{appends-none}
 use Rattle.mark_tags.specs.Marks.{Slots, end, text, front, closed, next, piece_text, start, Step, plain, ◌▹◌, write}
-use Rattle.mark_tags.specs.Flat.{within, beyond, slot_at, bound_at, Held, Ready, Answer}
+use Rattle.mark_tags.specs.Flat.{within, beyond, slot_at, bound_at, Held, Ready}
 use Rattle.mark_pieces.specs.Spans.{Writes, SlotWritten}
 use Rattle.mark_pieces.proofs.Pieces.{unescaped, piece-by}
+use Rattle.mark_writing.specs.Looked.{Answer}
 use Rattle.mark_writing.specs.OneText.{SomeText, OneText}
 use Rattle.mark_writing.proofs.Slotting.{at-text, at-leave, bounds, some-text}
-use Rattle.mark_writing.proofs.Looking.{here-start, look-text, answer-some}
+use Rattle.mark_writing.proofs.Looking.{here-start, look-text}
 use Rattle.mark_writing.proofs.Drawing.{▹-plain, writes-plain}
 use Rattle.mark_writing.proofs.SlotWriting.{text-step}
 
@@ -25,9 +27,9 @@ module _ (src ns : List ℕ) (k from : ℕ) where
   abbrev behind : ℕ
   behind = get_or ns (length src + (from + 1)) 0
 
-  pub first-text : (depth : ℕ) → Ready src ns k from depth → from < k → SomeText src ns from → Answer src ns k from 0
+  pub first-text : (depth : ℕ) → Ready src ns k from depth → from < k → SomeText src ns from → Answer src ns k from None
   unfolding bound_at
-  first-text depth r h t = answer-some src ns k from (look-text src ns k from depth from (here-start src ns k from depth r) h t.code t.some).0
+  first-text depth r h t = (look-text src ns k from depth from (here-start src ns k from depth r) h t.code t.some).0
 
   pub one-text : from + 1 < k → SomeText src ns from → get_or ns (2 * length src + 2 + (from + 1)) 0 ≡ 2 → OneText src ns k from
   unfolding bound_at

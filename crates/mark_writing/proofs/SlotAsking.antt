@@ -1,16 +1,14 @@
 -- What the functions that write slots and marks are asked follows from what they know. Assumes nothing.
-use mathlib.Core.Path.{◌≡◌, refl, ap, ◌∙◌, subst}
+use mathlib.Core.Path.{◌≡◌, ap, ◌∙◌, subst}
 use mathlib.Core.List.{List, []}
 use mathlib.Core.Bool.{Bool, true, false, cond}
 use Prim.Native.Nat.{ℕ, suc, ◌+◌, ◌-◌, ◌*◌, ◌%◌, ◌≤◌, ◌<◌}
 use native.Mathlib.Omega.{arith}
 use lib.Bits.{bit_or}
 use lib.Count.{ones}
-use lib.Dec.{eqb}
-use borrow.Author.Tests.{eqb-false}
 use lib.ListN.{length, get_or}
-use Rattle.mark_tags.specs.Marks.{mark, Next, nothing, a_byte, a-mark, next_byte, marked}
-use Rattle.mark_tags.specs.Flat.{within, beyond, slot_at, Fresh, kind_numbered, kinds_of, bit_of, Held, Ready, NextIs, next_number}
+use Rattle.mark_tags.specs.Marks.{mark}
+use Rattle.mark_tags.specs.Flat.{within, beyond, slot_at, Fresh, kind_numbered, kinds_of, bit_of, Held, Ready}
 use Rattle.mark_pieces.specs.Spans.{marks_in, Slot, MarkReady}
 use Rattle.mark_tags.proofs.Depth.{count, count-le, count_add, fresh-depth}
 use Rattle.mark_items.proofs.Masks.{Fits, fits, ones-count}
@@ -66,21 +64,6 @@ module _ {src ns : List ℕ} {k i mask before : ℕ} {out org : List ℕ} {c : �
 
   pub behind-ready : (item : ℕ) → item ≤ k → slot_at src ns k item ≡ beyond (slot_at src ns k (i + 1)) → Ready src ns k item (4 - ones mask)
   behind-ready item h e = fresh-ready src ns k item mask m.slot.table h m.slot.small (rw e fresh-mark.2)
-
-next-by : (n : Next) (r : ℕ) (b : Bool) → r ≡ next_number n → eqb r 257 ≡ b → b ≡ marked n → cond b 123 r ≡ next_byte n
-next-by nothing r b e f g = rw (g, e)
-next-by (a_byte a) r b e f g = rw (g, e)
-next-by a-mark r b e f g = rw (g)
-
-pub next-is : (n : Next) (r s : ℕ) → NextIs n r → s ≡ cond (eqb r 257) 123 r → s ≡ next_byte n
-next-is n r s h e = e ∙ next-by n r (eqb r 257) h.number refl h.touches
-
-small_by : (b : Bool) (r : ℕ) → eqb r 257 ≡ b → r ≤ 257 → cond b 123 r ≤ 256
-small_by true r e h = omega arith
-small_by false r e h = let z = eqb-false r 257 e in omega arith
-
-pub next_small : (n : Next) (r s : ℕ) → NextIs n r → s ≡ cond (eqb r 257) 123 r → s ≤ 256
-next_small n r s h e = let z = small_by (eqb r 257) r refl h.small in omega arith
 
 last-by : (b : Bool) (d : ℕ) → d < 256 → cond b 125 d ≤ 256
 last-by true d h = omega arith

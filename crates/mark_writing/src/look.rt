@@ -1,12 +1,43 @@
 // Looking through a slot. A slot is given by the number of its first item.
 ghost use Rattle.std.specs.Prelude.{◌≡◌, true, ◌-◌, ◌≤◌, ◌<◌, length, get_or};
-ghost use Rattle.mark_tags.specs.Marks.{next};
-ghost use Rattle.mark_tags.specs.Flat.{within, slot_at, NextIs, Held, Ready, Answer};
+ghost use Rattle.mark_tags.specs.Marks.{next, next_byte, marked};
+ghost use Rattle.mark_tags.specs.Flat.{within, slot_at, Held, Ready};
 ghost use Rattle.mark_writing.specs.OneText.{SomeText, OneText};
-ghost use Rattle.mark_writing.specs.Looked.{Touches, Looked};
+ghost use Rattle.mark_writing.specs.Looked.{as_next, Answer, Touches, Looked};
 
 use mark_pieces::piece::is_touching;
 use text::PostAt;
+
+// What is written next in a slot.
+#[derive(Clone, Copy)]
+pub enum Next {
+    Nothing,
+    Byte(u8),
+    // with content
+    Mark,
+}
+
+impl Next {
+    // The byte that is written next: `{` for a mark, 256 for nothing.
+    pub fn byte(self) -> usize
+        ensures { (result ≡ next_byte (as_next self)) × (result ≤ 256) }
+    {
+        match self {
+            Next::Nothing => 256,
+            Next::Byte(b) => usize::from(b),
+            Next::Mark => usize::from(b'{'),
+        }
+    }
+
+    pub fn is_mark(self) -> bool
+        ensures { result ≡ marked (as_next self) }
+    {
+        match self {
+            Next::Mark => true,
+            Next::Nothing | Next::Byte(_) => false,
+        }
+    }
+}
 
 // Whether item i is a text that is not empty.
 fn is_text(text: &[u8], nums: &[u32], k: usize, i: usize) -> bool
@@ -17,8 +48,8 @@ fn is_text(text: &[u8], nums: &[u32], k: usize, i: usize) -> bool
     (nums[2 * n + 2 + i] == 0) & (nums[n + i] < nums[n + (i + 1)])
 }
 
-// Whether a slot holds text, at some depth: 0 if so, else 1 + the item behind the slot.
-fn content(text: &[u8], nums: &[u32], k: usize, from: usize, depth: usize) -> usize
+// The item behind a slot that holds no text, at no depth; none where it holds some.
+fn content(text: &[u8], nums: &[u32], k: usize, from: usize, depth: usize) -> Option<usize>
     requires { Ready text.now nums.now k from depth }
     ensures { Answer text.now nums.now k from result }
 {
@@ -27,68 +58,61 @@ fn content(text: &[u8], nums: &[u32], k: usize, from: usize, depth: usize) -> us
     while i < k {
         let code = nums[2 * n + 2 + i];
         if code == 2 {
-            return i + 2;
+            return Some(i + 1);
         }
         if code == 0 {
             if nums[n + i] < nums[n + (i + 1)] {
-                return 0;
+                return None;
             }
             i += 1;
         } else if code < 4 {
             i += 1;
         } else {
-            let j = content(text, nums, k, i + 1, depth - 1);
-            if j == 0 {
-                return 0;
-            }
-            i = j - 1;
+            i = content(text, nums, k, i + 1, depth - 1)?;
         }
     }
-    i + 1
+    Some(i)
 }
 
 // The same, at once where the slot begins with a text that is not empty.
-fn content_of(text: &[u8], nums: &[u32], k: usize, from: usize, depth: usize) -> usize
+fn content_of(text: &[u8], nums: &[u32], k: usize, from: usize, depth: usize) -> Option<usize>
     requires { Ready text.now nums.now k from depth }
     ensures { Answer text.now nums.now k from result }
 {
-    if from < k {
-        if is_text(text, nums, k, from) {
-            return 0;
-        }
+    if from < k && is_text(text, nums, k, from) {
+        return None;
     }
     content(text, nums, k, from, depth)
 }
 
-// What is written next in a slot: a byte, 256 for nothing, 257 for a mark with content.
-pub fn next_of(text: &[u8], nums: &[u32], k: usize, from: usize, depth: usize) -> usize
+// What is written next in a slot.
+pub fn next_of(text: &[u8], nums: &[u32], k: usize, from: usize, depth: usize) -> Next
     requires { Ready text.now nums.now k from depth }
-    ensures { NextIs (next (within (slot_at text.now nums.now k from))) result }
+    ensures { as_next result ≡ next (within (slot_at text.now nums.now k from)) }
 {
     let n = text.len();
     let mut i = from;
     while i < k {
         let code = nums[2 * n + 2 + i];
         if code == 2 {
-            return 256;
+            return Next::Nothing;
         }
         if code == 0 {
             let a = nums[n + i] as usize;
             if a < nums[n + (i + 1)] as usize {
-                return text[a] as usize;
+                return Next::Byte(text[a]);
             }
             i += 1;
         } else if code < 4 {
             i += 1;
         } else {
-            let j = content(text, nums, k, i + 1, depth - 1);
-            if j == 0 {
-                return 257;
+            match content(text, nums, k, i + 1, depth - 1) {
+                None => return Next::Mark,
+                Some(behind) => i = behind,
             }
-            i = j - 1;
         }
     }
-    256
+    Next::Nothing
 }
 
 // Whether a mark is written next behind a text piece that ends at e, as far as its last byte has to do with that: if not, nothing is looked for.
@@ -96,12 +120,11 @@ fn touches_mark(text: &[u8], nums: &[u32], k: usize, from: usize, depth: usize, 
     requires { Ready text.now nums.now k from depth × ((0 < e.0) × (e.0 ≤ length text.now)) }
     ensures { Touches text.now nums.now k from result (get_or text.now (e.0 - 1) 0) }
 {
-    let last = e.0 - 1;
-    if is_touching(true, text[last]) {
-        let next = next_of(text, nums, k, from, depth);
-        return next == 257;
+    if is_touching(true, text[e.0 - 1]) {
+        next_of(text, nums, k, from, depth).is_mark()
+    } else {
+        false
     }
-    false
 }
 
 // Whether the slot that starts at item `from` is one text that is not empty, and ends.
@@ -116,63 +139,52 @@ pub fn is_one_text(text: &[u8], nums: &[u32], k: usize, from: usize) -> bool
     is_text(text, nums, k, from) & (nums[2 * n + 2 + (from + 1)] == 2)
 }
 
-// An item: 0 the end of its slot; 1 a text from a up to e, and its last byte; 2 nothing is written up to an item; 3 a mark with content.
+// An item.
 #[derive(Clone, Copy)]
-pub struct Seen {
-    pub what: usize,
-    pub a: PostAt,
-    pub e: PostAt,
-    pub touches: bool,
-    pub last: usize,
-    pub item: usize,
-}
-
-// An item that is no text.
-fn no_text(what: usize, item: usize) -> Seen
-    ensures { (result.what ≡ what) × (result.item ≡ item) }
-{
-    Seen {
-        what,
-        a: PostAt(0),
-        e: PostAt(0),
-        touches: false,
-        last: 0,
-        item,
-    }
+pub enum Seen {
+    // the end of its slot
+    End,
+    // from a up to e, with its last byte
+    Text {
+        a: PostAt,
+        e: PostAt,
+        touches: bool,
+        last: u8,
+    },
+    // nothing is written up to an item
+    Skip(usize),
+    // with content
+    Mark,
 }
 
 // Looks at item i.
 pub fn look(text: &[u8], nums: &[u32], k: usize, i: usize, depth: usize) -> Seen
     requires { Ready text.now nums.now k i depth × (i < k) }
-    ensures { Looked text.now nums.now k i result.what result.a.0 result.e.0 result.touches result.last result.item }
+    ensures { Looked text.now nums.now k i result }
 {
     let n = text.len();
     let code = nums[2 * n + 2 + i];
     if code == 2 {
-        return no_text(0, i);
+        return Seen::End;
     }
     if code == 0 {
         let a = nums[n + i] as usize;
         let e = nums[n + (i + 1)] as usize;
         if a < e {
-            let touches = touches_mark(text, nums, k, i + 1, depth, PostAt(e));
-            return Seen {
-                what: 1,
+            return Seen::Text {
                 a: PostAt(a),
                 e: PostAt(e),
-                touches,
-                last: text[e - 1] as usize,
-                item: i,
+                touches: touches_mark(text, nums, k, i + 1, depth, PostAt(e)),
+                last: text[e - 1],
             };
         }
-        return no_text(2, i + 1);
+        return Seen::Skip(i + 1);
     }
     if code < 4 {
-        return no_text(2, i + 1);
+        return Seen::Skip(i + 1);
     }
-    let j = content_of(text, nums, k, i + 1, depth - 1);
-    if j == 0 {
-        return no_text(3, i);
+    match content_of(text, nums, k, i + 1, depth - 1) {
+        None => Seen::Mark,
+        Some(behind) => Seen::Skip(behind),
     }
-    no_text(2, j - 1)
 }

@@ -1,12 +1,12 @@
 // Writing a slot, whose text stands in work memory behind the area that it is written into. A slot is given by the number of its first item.
-ghost use Rattle.std.specs.Prelude.{◌≡◌, true, cond, eqb, ◌+◌, ◌*◌, ◌%◌, ◌≤◌, ◌<◌, get_or};
+ghost use Rattle.std.specs.Prelude.{◌≡◌, true, cond, ◌+◌, ◌*◌, ◌%◌, ◌≤◌, ◌<◌, get_or};
 ghost use Rattle.mark_tags.specs.Marks.{next};
-ghost use Rattle.mark_tags.specs.Flat.{within, slot_at, NextIs};
-ghost use Rattle.mark_writing.specs.Looked.{Looked};
+ghost use Rattle.mark_tags.specs.Flat.{within, slot_at};
+ghost use Rattle.mark_writing.specs.Looked.{as_next, Looked};
 ghost use Rattle.mark_writing.specs.OneText.{OneText};
 ghost use Rattle.mark_writing.specs.Laid.{source, table, TableIn, HeldIn, ReadyIn, SlotAsked, SlotDone, TextAsked, TextDone, MarkAsked, MarkDone, BodyAsked, BodyDone};
 
-use crate::look::{Seen, is_one_text, look, next_of};
+use crate::look::{Next, Seen, is_one_text, look, next_of};
 use mark_items::items::bit_of;
 use mark_pieces::mark::{Body, delimiter_of, finish_mark};
 use mark_pieces::piece::write_piece;
@@ -52,44 +52,41 @@ pub struct Drawn {
     pub guarded: bool,
 }
 
-// The byte that is written next: `{` for a mark, 256 for nothing.
-pub fn next_byte(next: usize) -> usize
-    ensures { result ≡ cond (eqb next 257) 123 next }
-{
-    if next == 257 {
-        return 123;
-    }
-    next
-}
-
 // The last byte of a mark.
 pub fn last_of(braces: bool, d: u8) -> usize
     ensures { result ≡ cond braces 125 d }
 {
-    if braces {
-        return 125;
-    }
-    d as usize
+    usize::from(if braces { b'}' } else { d })
 }
 
 // Looks at item i.
 fn seen_at(work: &[u8], numbers: &[u32], w: Layout, i: usize, depth: usize) -> Seen
     requires { ReadyIn w work.now numbers.now i depth × (i < w.items) }
-    ensures { Looked (source w work.now) (table w numbers.now) w.items i result.what result.a.0 result.e.0 result.touches result.last result.item }
+    ensures { Looked (source w work.now) (table w numbers.now) w.items i result }
 {
     let base = w.base.0;
-    let past = base + w.size;
-    look(&work[base..past], &numbers[base..], w.items, i, depth)
+    look(
+        &work[base..base + w.size],
+        &numbers[base..],
+        w.items,
+        i,
+        depth,
+    )
 }
 
 // What is written next from item `from` on.
-fn next_at(work: &[u8], numbers: &[u32], w: Layout, from: usize, depth: usize) -> usize
+fn next_at(work: &[u8], numbers: &[u32], w: Layout, from: usize, depth: usize) -> Next
     requires { ReadyIn w work.now numbers.now from depth }
-    ensures { NextIs (next (within (slot_at (source w work.now) (table w numbers.now) w.items from))) result }
+    ensures { as_next result ≡ next (within (slot_at (source w work.now) (table w numbers.now) w.items from)) }
 {
     let base = w.base.0;
-    let past = base + w.size;
-    next_of(&work[base..past], &numbers[base..], w.items, from, depth)
+    next_of(
+        &work[base..base + w.size],
+        &numbers[base..],
+        w.items,
+        from,
+        depth,
+    )
 }
 
 // Whether the slot that starts at item `from` is one text that is not empty, and ends.
@@ -98,8 +95,7 @@ fn is_text_at(work: &[u8], numbers: &[u32], w: Layout, from: usize) -> bool
     ensures { result ≡ true → OneText (source w work.now) (table w numbers.now) w.items from }
 {
     let base = w.base.0;
-    let past = base + w.size;
-    is_one_text(&work[base..past], &numbers[base..], w.items, from)
+    is_one_text(&work[base..base + w.size], &numbers[base..], w.items, from)
 }
 
 // The kind of the mark that starts at item i.
@@ -107,9 +103,7 @@ fn kind_at(numbers: &[u32], w: Layout, i: usize) -> u32
     requires { TableIn w numbers.now × (i < w.items) }
     ensures { result ≡ get_or (table w numbers.now) (2 * w.size + 2 + i) 0 % 4 }
 {
-    let n = w.size;
-    let base = w.base.0;
-    numbers[base + (2 * n + 2 + i)] % 4
+    numbers[w.base.0 + (2 * w.size + 2 + i)] % 4
 }
 
 // Where item j starts.
@@ -117,9 +111,7 @@ fn bound_at(numbers: &[u32], w: Layout, j: usize) -> PostAt
     requires { TableIn w numbers.now × (j ≤ w.items) }
     ensures { result.0 ≡ get_or (table w numbers.now) (w.size + j) 0 }
 {
-    let n = w.size;
-    let base = w.base.0;
-    PostAt(numbers[base + (n + j)] as usize)
+    PostAt(numbers[w.base.0 + (w.size + j)] as usize)
 }
 
 // Writes a slot that is one text: at once, since nothing is guarded before it or written behind it.
@@ -185,7 +177,7 @@ fn end_mark(
         whole,
         mark.d,
         mark.before,
-        next_byte(next),
+        next.byte(),
     );
     let braces = closed.braces;
     let past = closed.to;
@@ -264,30 +256,36 @@ pub fn write_slot(
     let mut before: usize = 256;
     let mut guarded = false;
     while i < k {
-        let item = seen_at(&work[..], &numbers[..], w, i, depth);
-        if item.what == 0 {
-            return Went {
-                item: i + 1,
-                to,
-                count: c,
-            };
-        }
-        if item.what == 1 {
-            let a = in_work(w.base, item.a);
-            let e = in_work(w.base, item.e);
-            to = write_piece(work, numbers, a, e, guarded, item.touches, w.end, to);
-            before = item.last;
-            guarded = false;
-            i += 1;
-        } else if item.what == 2 {
-            i = item.item;
-        } else {
-            let mark = write_mark(work, numbers, w, i, mask, before, to, spans, c);
-            i = mark.item;
-            to = mark.to;
-            c = mark.count;
-            before = mark.before;
-            guarded = mark.guarded;
+        match seen_at(&work[..], &numbers[..], w, i, depth) {
+            Seen::End => {
+                return Went {
+                    item: i + 1,
+                    to,
+                    count: c,
+                };
+            }
+            Seen::Text {
+                a,
+                e,
+                touches,
+                last,
+            } => {
+                let from = in_work(w.base, a);
+                let behind = in_work(w.base, e);
+                to = write_piece(work, numbers, from, behind, guarded, touches, w.end, to);
+                before = usize::from(last);
+                guarded = false;
+                i += 1;
+            }
+            Seen::Skip(item) => i = item,
+            Seen::Mark => {
+                let mark = write_mark(work, numbers, w, i, mask, before, to, spans, c);
+                i = mark.item;
+                to = mark.to;
+                c = mark.count;
+                before = mark.before;
+                guarded = mark.guarded;
+            }
         }
     }
     Went {

@@ -1,6 +1,5 @@
 use native.Mathlib.Omega.{arith}
-use Prim.Native.Nat.{◌+◌, ◌-◌}
-use Rattle.mark_writing.proofs.Looking.{here-start, look-end, look-leave, look-text, look-gone, look-nothing, mark-deep, mark-ready, mark-some, mark-empty, answer-some, answer-empty}
+use Rattle.mark_writing.proofs.Looking.{here-start, look-end, look-leave, look-text, look-gone, look-nothing, mark-deep, mark-ready, mark-some, mark-empty}
 use Rattle.mark_tags.specs.Flat.{bound_at}
 use Rattle.mark_writing.proofs.look.+content.Goals as goal
 
@@ -10,13 +9,13 @@ loop-i-init t c = here-start _ _ _ _ _ c.requires
 pub returns-then-code-eq2 : goal.returns-then-code-eq2
 returns-then-code-eq2 t c = let l = c.loop-i in
     let a = c.args in
-    answer-empty _ _ _ _ (l.i + 1) _ (omega arith) (look-leave a.text.now a.nums.now a.k a.from a.depth l.i l.invariant (omega arith) c.if-code-eq2.true).0
+    (look-leave a.text.now a.nums.now a.k a.from a.depth l.i l.invariant (omega arith) c.if-code-eq2.true).0
 
 pub returns-then-nums-n : goal.returns-then-nums-n
 unfolding bound_at
 returns-then-nums-n t c = let l = c.loop-i in
     let a = c.args in
-    answer-some _ _ _ _ (look-text a.text.now a.nums.now a.k a.from a.depth l.i l.invariant (omega arith) c.if-code-eq0.true c.if-nums-n.true).0
+    (look-text a.text.now a.nums.now a.k a.from a.depth l.i l.invariant (omega arith) c.if-code-eq0.true c.if-nums-n.true).0
 
 pub loop-i-preserved-then-code-eq0 : goal.loop-i-preserved-then-code-eq0
 unfolding bound_at
@@ -34,30 +33,26 @@ overflow_sub-depth t c = let l = c.loop-i in
     let a = c.args in
     let d = mark-deep a.text.now a.nums.now a.k a.from a.depth l.i l.invariant (omega arith) c.if-code-lt4.false in omega arith
 
-pub content-j-requires : goal.content-j-requires
-content-j-requires t c = let l = c.loop-i in
+pub content-requires : goal.content-requires
+content-requires t c = let l = c.loop-i in
     let a = c.args in
     let d = mark-deep a.text.now a.nums.now a.k a.from a.depth l.i l.invariant (omega arith) c.if-code-lt4.false in
     (omega arith, mark-ready a.text.now a.nums.now a.k a.from a.depth l.i l.invariant (omega arith) c.if-code-lt4.false)
 
-pub returns-then-j-eq0 : goal.returns-then-j-eq0
-returns-then-j-eq0 t c = let l = c.loop-i in
+pub returns-in_err-i : goal.returns-in_err-i
+returns-in_err-i t c = let l = c.loop-i in
     let a = c.args in
-    answer-some _ _ _ _ (mark-some a.text.now a.nums.now a.k a.from a.depth l.i l.invariant (omega arith) c.if-code-lt4.false (c.content-j.ensures.some c.if-j-eq0.true)).0
+    rw c.from_residual.ensures (mark-some a.text.now a.nums.now a.k a.from a.depth l.i l.invariant (omega arith) c.if-code-lt4.false c.in_err-i.ensures).0
 
 pub loop-i-smaller : goal.loop-i-smaller
-loop-i-smaller t c = let z = c.if-j-eq0.false in
-    let e = c.content-j.ensures.empty (c.content-j.result - 1) (omega arith) in
-    let f = e.forward in
-    omega arith
+loop-i-smaller t c = let f = c.in_ok-i.ensures.forward in omega arith
 
 pub loop-i-preserved : goal.loop-i-preserved
 loop-i-preserved t c = let l = c.loop-i in
     let a = c.args in
-    let z = c.if-j-eq0.false in
-    mark-empty a.text.now a.nums.now a.k a.from a.depth l.i l.invariant (omega arith) c.if-code-lt4.false _ (c.content-j.ensures.empty (c.content-j.result - 1) (omega arith))
+    mark-empty a.text.now a.nums.now a.k a.from a.depth l.i l.invariant (omega arith) c.if-code-lt4.false _ c.in_ok-i.ensures
 
 pub returns : goal.returns
 returns t c = let l = c.loop-i in
     let a = c.args in
-    answer-empty _ _ _ _ l.i _ (omega arith) (look-end a.text.now a.nums.now a.k a.from a.depth l.i l.invariant (omega arith)).0
+    (look-end a.text.now a.nums.now a.k a.from a.depth l.i l.invariant (omega arith)).0

@@ -1,9 +1,9 @@
 use borrow.Author.Rules.{rules}
 use native.Mathlib.Omega.{arith}
-use Prim.Native.Nat.{◌+◌, ◌-◌}
-use lib.ListN.{length, get_or}
+use mathlib.Core.Path.{sym}
+use Prim.Native.Nat.{◌+◌}
 use lib.ListN.{length}
-use Rattle.mark_writing.proofs.Looking.{next-nothing, next-mark, next-byte}
+use lib.ListN.{length}
 use Rattle.mark_writing.proofs.Looking.{here-start, look-end, look-leave, look-text, look-gone, look-nothing, mark-deep, mark-ready, mark-some, mark-empty}
 use Rattle.mark_writing.proofs.Slotting.{bounds}
 use Rattle.mark_tags.specs.Flat.{bound_at}
@@ -30,7 +30,7 @@ bounds-nums-n c = let l = c.loop-i in let t' = l.invariant.ready.table in let sm
 pub returns-then-code-eq2 : goal.returns-then-code-eq2
 returns-then-code-eq2 c = let l = c.loop-i in
     let a = c.args in
-    next-nothing _ (look-leave a.text.now a.nums.now a.k a.from a.depth l.i l.invariant (omega arith) c.if-code-eq2.true).1
+    sym (look-leave a.text.now a.nums.now a.k a.from a.depth l.i l.invariant (omega arith) c.if-code-eq2.true).1
 
 pub overflow_add-a : goal.overflow_add-a
 overflow_add-a c = let l = c.loop-i in let t' = l.invariant.ready.table in let sm = t'.small in let rm = t'.room in let fw = t'.few in let up = l.invariant.ready.up_to in search rules
@@ -67,14 +67,11 @@ bounds-text-a c = let l = c.loop-i in
     let z = c.if-a-nums.true in
     omega arith
 
-pub overflow_cast-result : goal.overflow_cast-result
-overflow_cast-result c = let l = c.loop-i in let a = c.args in omega (arith, c.type_inv.text (get_or a.nums.now (length a.text.now + l.i) 0))
-
 pub returns-then-a-nums : goal.returns-then-a-nums
 unfolding bound_at
 returns-then-a-nums c = let l = c.loop-i in
     let a = c.args in
-    next-byte _ _ (look-text a.text.now a.nums.now a.k a.from a.depth l.i l.invariant (omega arith) c.if-code-eq0.true c.if-a-nums.true).1 (omega (arith, c.type_inv.text (get_or a.nums.now (length a.text.now + l.i) 0)))
+    sym (look-text a.text.now a.nums.now a.k a.from a.depth l.i l.invariant (omega arith) c.if-code-eq0.true c.if-a-nums.true).1
 
 pub overflow_add-i-then-code-eq0 : goal.overflow_add-i-then-code-eq0
 overflow_add-i-then-code-eq0 c = let l = c.loop-i in let t' = l.invariant.ready.table in let sm = t'.small in let rm = t'.room in let fw = t'.few in let up = l.invariant.ready.up_to in search rules
@@ -107,34 +104,28 @@ overflow_sub-depth c = let l = c.loop-i in
     let a = c.args in
     let d = mark-deep a.text.now a.nums.now a.k a.from a.depth l.i l.invariant (omega arith) c.if-code-lt4.false in omega arith
 
-pub content-j-requires : goal.content-j-requires
-content-j-requires c = let l = c.loop-i in
+pub content-requires : goal.content-requires
+content-requires c = let l = c.loop-i in
     let a = c.args in
     mark-ready a.text.now a.nums.now a.k a.from a.depth l.i l.invariant (omega arith) c.if-code-lt4.false
 
-pub returns-then-j-eq0 : goal.returns-then-j-eq0
-returns-then-j-eq0 c = let l = c.loop-i in
+pub returns-in-None : goal.returns-in-None
+returns-in-None c = let l = c.loop-i in
     let a = c.args in
-    next-mark _ (mark-some a.text.now a.nums.now a.k a.from a.depth l.i l.invariant (omega arith) c.if-code-lt4.false (c.content-j.ensures.some c.if-j-eq0.true)).1
-
-pub overflow_sub-i : goal.overflow_sub-i
-overflow_sub-i c = let z = c.if-j-eq0.false in omega arith
+    sym (mark-some a.text.now a.nums.now a.k a.from a.depth l.i l.invariant (omega arith) c.if-code-lt4.false c.in-None.ensures).1
 
 pub loop-i-smaller : goal.loop-i-smaller
 loop-i-smaller c = let l = c.loop-i in
     let a = c.args in
-    let z = c.if-j-eq0.false in
-    let e = c.content-j.ensures.empty (c.content-j.result - 1) (omega arith) in
-    let f = e.forward in
+    let f = c.in-Some.ensures.forward in
     omega arith
 
 pub loop-i-preserved : goal.loop-i-preserved
 loop-i-preserved c = let l = c.loop-i in
     let a = c.args in
-    let z = c.if-j-eq0.false in
-    mark-empty a.text.now a.nums.now a.k a.from a.depth l.i l.invariant (omega arith) c.if-code-lt4.false _ (c.content-j.ensures.empty (c.content-j.result - 1) (omega arith))
+    mark-empty a.text.now a.nums.now a.k a.from a.depth l.i l.invariant (omega arith) c.if-code-lt4.false _ c.in-Some.ensures
 
 pub returns : goal.returns
 returns c = let l = c.loop-i in
     let a = c.args in
-    next-nothing _ (look-end a.text.now a.nums.now a.k a.from a.depth l.i l.invariant (omega arith)).1
+    sym (look-end a.text.now a.nums.now a.k a.from a.depth l.i l.invariant (omega arith)).1

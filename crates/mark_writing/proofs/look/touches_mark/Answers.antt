@@ -10,13 +10,13 @@ never : (b : ℕ) (m r : Bool) → r ≡ touching true b → r ≡ false → tou
 never b true r e f = sym (sym e ∙ f)
 never b false r e f = refl
 
-pub next_of-next-requires : goal.next_of-next-requires
-next_of-next-requires c = c.requires.0
+pub next_of-requires : goal.next_of-requires
+next_of-requires c = c.requires.0
 
 pub returns-then-is_touching : goal.returns-then-is_touching
 returns-then-is_touching c = let a = c.args in
-    ap (λ (m : Bool). touching m (get_or a.text.now (a.e.0 - 1) 0)) c.next_of-next.ensures.touches
+    ap (λ (m : Bool). touching m (get_or a.text.now (a.e.0 - 1) 0)) (c.is_mark.ensures ∙ ap marked c.next_of.ensures)
 
-pub returns : goal.returns
-returns c = let a = c.args in
+pub returns-else-is_touching : goal.returns-else-is_touching
+returns-else-is_touching c = let a = c.args in
     never (get_or a.text.now (a.e.0 - 1) 0) (marked (next (within (slot_at a.text.now a.nums.now a.k a.from)))) _ c.is_touching.ensures c.if-is_touching.false

@@ -1,5 +1,6 @@
 use native.Mathlib.Omega.{arith}
 use mathlib.Core.Path.{refl, sym}
+use Rattle.mark_writing.specs.declared.look.Seen.TheVariants.{End, Text, Skip, Mark}
 use Rattle.mark_writing.specs.Laid.{source, table}
 use Rattle.mark_writing.proofs.SlotWriting.{drawing-start, drawn-end, drawn-leave, drawn-mark}
 use Rattle.mark_writing.proofs.SlotAsking.{ones-few, fresh-ready}
@@ -55,8 +56,8 @@ write_slot-overflow_sub-depth t c = ones-few c.args.mask c.requires.0.small
 pub write_slot-loop-i-init : goal.write_slot-loop-i-init
 write_slot-loop-i-init t c = (drawing-start _ _ _ _ _ _ _ _ _ _ _ c.requires.0, behind-none _ _ _)
 
-pub write_slot-seen_at-item-requires : goal.write_slot-seen_at-item-requires
-write_slot-seen_at-item-requires t c =
+pub write_slot-seen_at-requires : goal.write_slot-seen_at-requires
+write_slot-seen_at-requires t c =
     let a = c.args in
     let sl = c.requires.0 in
     let bh = c.requires.1.behind in
@@ -65,35 +66,35 @@ write_slot-seen_at-item-requires t c =
     let zt = same-table a.w bh l.invariant.1 in
     ((ready-as (sym zs) (sym zt) (fresh-ready (source a.w a.work.now) (table a.w a.numbers.now) a.w.items l.i a.mask sl.table l.invariant.0.up_to sl.small l.invariant.0.fresh), lies-on c.requires.1 l.auto.work), omega arith)
 
-pub write_slot-returns-then-item-eq0 : goal.write_slot-returns-then-item-eq0
-write_slot-returns-then-item-eq0 t c =
+pub write_slot-returns-in-End : goal.write_slot-returns-in-End
+write_slot-returns-in-End t c =
     let a = c.args in
     let bh = c.requires.1.behind in
     let l = c.loop-i in
-    let lk = looked-as (same_source a.w bh l.invariant.1) (same-table a.w bh l.invariant.1) c.seen_at-item.ensures in
-    (drawn-leave (source a.w a.work.now) (table a.w a.numbers.now) a.w.items a.from a.mask _ _ _ _ _ _ _ _ l.i l.before l.guarded l.invariant.0 (omega arith) (lk.leave c.if-item-eq0.true), l.invariant.1)
+    let lk = looked-as a.w.items l.i End (same_source a.w bh l.invariant.1) (same-table a.w bh l.invariant.1) c.in-End.ensures in
+    (drawn-leave (source a.w a.work.now) (table a.w a.numbers.now) a.w.items a.from a.mask _ _ _ _ _ _ _ _ l.i l.before l.guarded l.invariant.0 (omega arith) lk, l.invariant.1)
 
-pub write_slot-in_work-a-requires : goal.write_slot-in_work-a-requires
-write_slot-in_work-a-requires t c =
+pub write_slot-in_work-from-requires : goal.write_slot-in_work-from-requires
+write_slot-in_work-from-requires t c =
     let a = c.args in
     let ls = c.requires.1 in
     let l = c.loop-i in
-    let lk = looked-as (same_source a.w ls.behind l.invariant.1) (same-table a.w ls.behind l.invariant.1) c.seen_at-item.ensures in
+    let lk = looked-as a.w.items l.i (Text c.in-Text.a c.in-Text.e c.in-Text.touches c.in-Text.last) (same_source a.w ls.behind l.invariant.1) (same-table a.w ls.behind l.invariant.1) c.in-Text.ensures in
     let n = source-size a.w a.work.now ls in
-    let pc = lk.text c.if-item-eq1.true in
+    let pc = lk in
     let q = piece_inside c.requires.0.table c.loop-i-test.true pc in
     let sm = pc.some in
     let nr = ls.near in
     omega arith
 
-pub write_slot-in_work-e-requires : goal.write_slot-in_work-e-requires
-write_slot-in_work-e-requires t c =
+pub write_slot-in_work-behind-requires : goal.write_slot-in_work-behind-requires
+write_slot-in_work-behind-requires t c =
     let a = c.args in
     let ls = c.requires.1 in
     let l = c.loop-i in
-    let lk = looked-as (same_source a.w ls.behind l.invariant.1) (same-table a.w ls.behind l.invariant.1) c.seen_at-item.ensures in
+    let lk = looked-as a.w.items l.i (Text c.in-Text.a c.in-Text.e c.in-Text.touches c.in-Text.last) (same_source a.w ls.behind l.invariant.1) (same-table a.w ls.behind l.invariant.1) c.in-Text.ensures in
     let n = source-size a.w a.work.now ls in
-    let q = piece_inside c.requires.0.table c.loop-i-test.true (lk.text c.if-item-eq1.true) in
+    let q = piece_inside c.requires.0.table c.loop-i-test.true lk in
     let nr = ls.near in
     omega arith
 
@@ -105,19 +106,19 @@ write_slot-write_piece-to-requires t c =
     let ins = ls.inside in
     let rm = (table-in a.w a.work.now a.numbers.now (c.requires.0.table, ls)).room in
     let l = c.loop-i in
-    let lk = looked-as (same_source a.w bh l.invariant.1) (same-table a.w bh l.invariant.1) c.seen_at-item.ensures in
+    let lk = looked-as a.w.items l.i (Text c.in-Text.a c.in-Text.e c.in-Text.touches c.in-Text.last) (same_source a.w bh l.invariant.1) (same-table a.w bh l.invariant.1) c.in-Text.ensures in
     let n = source-size a.w a.work.now ls in
-    let pc = lk.text c.if-item-eq1.true in
+    let pc = lk in
     let q = piece_inside c.requires.0.table c.loop-i-test.true pc in
     let sm = pc.some in
-    let u = c.in_work-a.ensures in
-    let v = c.in_work-e.ensures in
+    let u = c.in_work-from.ensures in
+    let v = c.in_work-behind.ensures in
     let kb = l.auto.work in
     let kn = l.auto.numbers in
     ((omega arith, omega arith), (omega arith, omega arith))
 
-pub write_slot-loop-i-preserved-then-item-eq1 : goal.write_slot-loop-i-preserved-then-item-eq1
-write_slot-loop-i-preserved-then-item-eq1 t c =
+pub write_slot-loop-i-preserved-in-Text : goal.write_slot-loop-i-preserved-in-Text
+write_slot-loop-i-preserved-in-Text t c =
     let a = c.args in
     let ls = c.requires.1 in
     let bh = ls.behind in
@@ -126,27 +127,27 @@ write_slot-loop-i-preserved-then-item-eq1 t c =
     let l = c.loop-i in
     let zs = same_source a.w bh l.invariant.1 in
     let zt = same-table a.w bh l.invariant.1 in
-    let lk = looked-as zs zt c.seen_at-item.ensures in
+    let lk = looked-as a.w.items l.i (Text c.in-Text.a c.in-Text.e c.in-Text.touches c.in-Text.last) zs zt c.in-Text.ensures in
     let n = source-size a.w a.work.now ls in
-    let pc = lk.text c.if-item-eq1.true in
+    let pc = lk in
     let q = piece_inside c.requires.0.table c.loop-i-test.true pc in
     let kb = l.auto.work in
     let kn = l.auto.numbers in
     let p = c.write_piece-to in
     let lv = area-cells a.w.end l.work l.numbers p.new.buf p.new.nums (omega arith) (omega arith) p.auto.buf p.auto.nums in
     let lv₀ = area-cells a.w.end a.work.now a.numbers.now l.work l.numbers (omega arith) (omega arith) kb kn in (
-      drawn-piece (source a.w a.work.now) (table a.w a.numbers.now) a.w.items a.from a.mask _ _ _ _ _ _ _ _ l.i l.before l.guarded l.invariant.0 c.loop-i-test.true c.requires.0.table pc lv lv₀
-          (piece-area a.w _ _ _ _ _ _ _ _ zs zt c.in_work-a.ensures c.in_work-e.ensures (omega arith) p.ensures),
+      rw c.from-before.ensures (drawn-piece (source a.w a.work.now) (table a.w a.numbers.now) a.w.items a.from a.mask _ _ _ _ _ _ _ _ l.i l.before l.guarded l.invariant.0 c.loop-i-test.true c.requires.0.table pc lv lv₀
+          (piece-area a.w _ _ _ _ _ _ _ _ zs zt c.in_work-from.ensures c.in_work-behind.ensures (omega arith) p.ensures)),
       behind-then l.invariant.1 (behind-appends p.ensures),
     )
 
-pub write_slot-loop-i-preserved-then-item-eq2 : goal.write_slot-loop-i-preserved-then-item-eq2
-write_slot-loop-i-preserved-then-item-eq2 t c =
+pub write_slot-loop-i-preserved-in-Skip : goal.write_slot-loop-i-preserved-in-Skip
+write_slot-loop-i-preserved-in-Skip t c =
     let a = c.args in
     let bh = c.requires.1.behind in
     let l = c.loop-i in
-    let lk = looked-as (same_source a.w bh l.invariant.1) (same-table a.w bh l.invariant.1) c.seen_at-item.ensures in
-    (drawn-skip (source a.w a.work.now) (table a.w a.numbers.now) a.w.items a.from a.mask _ _ _ _ _ _ _ _ l.i l.before l.guarded l.invariant.0 c.loop-i-test.true c.requires.0.table _ (lk.skip c.if-item-eq2.true), l.invariant.1)
+    let lk = looked-as a.w.items l.i (Skip c.in-Skip.item) (same_source a.w bh l.invariant.1) (same-table a.w bh l.invariant.1) c.in-Skip.ensures in
+    (drawn-skip (source a.w a.work.now) (table a.w a.numbers.now) a.w.items a.from a.mask _ _ _ _ _ _ _ _ l.i l.before l.guarded l.invariant.0 c.loop-i-test.true c.requires.0.table _ lk, l.invariant.1)
 
 pub write_slot-write_mark-mark-requires : goal.write_slot-write_mark-mark-requires
 write_slot-write_mark-mark-requires t c =
@@ -159,11 +160,8 @@ write_slot-write_mark-mark-requires t c =
     let l = c.loop-i in
     let zs = same_source a.w bh l.invariant.1 in
     let zt = same-table a.w bh l.invariant.1 in
-    let lk = looked-as zs zt c.seen_at-item.ensures in
-    let n₁ = c.if-item-eq0.false in
-    let n₂ = c.if-item-eq1.false in
-    let n₃ = c.if-item-eq2.false in
-    let mk = lk.mark (omega arith) in
+    let lk = looked-as a.w.items l.i Mark zs zt c.in-Mark.ensures in
+    let mk = lk in
     let x = area_same a.w.end a.work.now l.work (omega arith) l.auto.work in
     let y = area_same a.w.end a.numbers.now l.numbers (omega arith) l.auto.numbers in
     let sh = sl.short in
@@ -191,11 +189,8 @@ write_slot-loop-i-preserved t c =
     let l = c.loop-i in
     let zs = same_source a.w bh l.invariant.1 in
     let zt = same-table a.w bh l.invariant.1 in
-    let lk = looked-as zs zt c.seen_at-item.ensures in
-    let n₁ = c.if-item-eq0.false in
-    let n₂ = c.if-item-eq1.false in
-    let n₃ = c.if-item-eq2.false in
-    let mk = lk.mark (omega arith) in
+    let lk = looked-as a.w.items l.i Mark zs zt c.in-Mark.ensures in
+    let mk = lk in
     let kb = l.auto.work in
     let kn = l.auto.numbers in
     let d = c.write_mark-mark in

@@ -11,11 +11,11 @@ overflow_add-result c = let t = c.requires.0 in let r = t.room in let s = t.smal
 pub overflow_add-result-2 : goal.overflow_add-result-2
 overflow_add-result-2 c = let t = c.requires.0 in let r = t.room in let s = t.small in let f = t.few in search rules
 
-pub offset_bounds-numbers-base : goal.offset_bounds-numbers-base
-offset_bounds-numbers-base c = let t = c.requires.0 in let r = t.room in let s = t.small in let f = t.few in search rules
+pub offset_bounds-numbers-w : goal.offset_bounds-numbers-w
+offset_bounds-numbers-w c = let t = c.requires.0 in let r = t.room in let s = t.small in let f = t.few in search rules
 
-pub bounds-numbers-base : goal.bounds-numbers-base
-bounds-numbers-base c = let t = c.requires.0 in let r = t.room in let s = t.small in let f = t.few in search rules
+pub bounds-numbers-w : goal.bounds-numbers-w
+bounds-numbers-w c = let t = c.requires.0 in let r = t.room in let s = t.small in let f = t.few in search rules
 
 pub overflow_cast-result : goal.overflow_cast-result
 overflow_cast-result c = let a = c.args in omega (arith, c.type_inv.numbers (a.w.base.0 + (a.w.size + a.j)))

@@ -1,7 +1,7 @@
 use native.Mathlib.Omega.{arith}
 use mathlib.Core.Path.{refl}
 use lib.Seq.{length-take-le}
-use Rattle.mark_writing.proofs.SlotAsking.{ones-few, behind-ready, next_small}
+use Rattle.mark_writing.proofs.SlotAsking.{ones-few, behind-ready}
 use Rattle.mark_writing.proofs.MarkWriting.{mark-full, mark-asks, mark-written}
 use Rattle.mark_writing.proofs.Inwards.{behind-none, area_same, table-in}
 use Rattle.mark_writing.proofs.slot.end_mark.Goals as goal
@@ -30,7 +30,7 @@ finish_mark-closed-requires c = let a = c.args in
     let x = length-take-le a.w.end a.work.now (omega (arith, bh, ins)) in
     let z = c.if-w-to.false in
     let h = (table-in a.w a.work.now a.numbers.now (c.requires.0.ready.slot.table, c.requires.1)).room in
-    (mark-asks c.requires.0 (omega (arith, x, z)) _ (next_small _ _ _ c.next_at-next.ensures c.next_byte.ensures), (omega (arith, bh, ins), omega (arith, h, bh)))
+    (mark-asks c.requires.0 (omega (arith, x, z)) _ c.byte.ensures.1, (omega (arith, bh, ins), omega (arith, h, bh)))
 
 pub returns : goal.returns
 returns c = let a = c.args in
@@ -41,6 +41,6 @@ returns c = let a = c.args in
     let h = (table-in a.w a.work.now a.numbers.now (c.requires.0.ready.slot.table, c.requires.1)).room in
     let closed = c.finish_mark-closed in (
       λ b. mark-written b (omega (arith, x, z)) _ _ _ _ _ _ _ _ _ (area_same a.w.end a.work.now _ (omega (arith, bh, ins)) closed.auto.buf) (area_same a.w.end a.numbers.now _ (omega (arith, h, bh)) closed.auto.nums) closed.auto.spans
-          c.next_at-next.ensures c.next_byte.ensures closed.ensures.finished c.last_of.ensures refl,
+          c.next_at-next.ensures c.byte.ensures.0 closed.ensures.finished c.last_of.ensures refl,
       closed.ensures.behind,
     )

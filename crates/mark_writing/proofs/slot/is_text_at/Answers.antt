@@ -4,8 +4,8 @@ use mathlib.Core.Path.{refl, sym}
 use Rattle.mark_writing.proofs.Inwards.{tail-is, table-in, held-as, one-text-as}
 use Rattle.mark_writing.proofs.slot.is_text_at.Goals as goal
 
-pub overflow_add-past : goal.overflow_add-past
-overflow_add-past c = let i = c.requires.0.1.inside in search rules
+pub overflow_add-base : goal.overflow_add-base
+overflow_add-base c = let i = c.requires.0.1.inside in search rules
 
 pub slice_bounds-is_one_text-count : goal.slice_bounds-is_one_text-count
 slice_bounds-is_one_text-count c = let i = c.requires.0.1.inside in search rules

@@ -17,11 +17,11 @@ overflow_add-result-2 c = let t = c.requires.0 in let r = t.room in let s = t.sm
 pub overflow_add-result-3 : goal.overflow_add-result-3
 overflow_add-result-3 c = let t = c.requires.0 in let r = t.room in let s = t.small in let f = t.few in search rules
 
-pub offset_bounds-numbers-base : goal.offset_bounds-numbers-base
-offset_bounds-numbers-base c = let t = c.requires.0 in let r = t.room in let s = t.small in let f = t.few in search rules
+pub offset_bounds-numbers-w : goal.offset_bounds-numbers-w
+offset_bounds-numbers-w c = let t = c.requires.0 in let r = t.room in let s = t.small in let f = t.few in search rules
 
-pub bounds-numbers-base : goal.bounds-numbers-base
-bounds-numbers-base c = let t = c.requires.0 in let r = t.room in let s = t.small in let f = t.few in search rules
+pub bounds-numbers-w : goal.bounds-numbers-w
+bounds-numbers-w c = let t = c.requires.0 in let r = t.room in let s = t.small in let f = t.few in search rules
 
 pub returns : goal.returns
 returns c = let a = c.args in ap (λ (x : ℕ). x % 4) (sym (get_or-drop a.w.base.0 a.numbers.now (2 * a.w.size + 2 + a.i) 0))

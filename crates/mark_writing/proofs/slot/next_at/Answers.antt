@@ -4,8 +4,8 @@ use mathlib.Core.Path.{refl, sym}
 use Rattle.mark_writing.proofs.Inwards.{tail-is, table-in, ready-as, next-as}
 use Rattle.mark_writing.proofs.slot.next_at.Goals as goal
 
-pub overflow_add-past : goal.overflow_add-past
-overflow_add-past c = let i = c.requires.1.inside in search rules
+pub overflow_add-base : goal.overflow_add-base
+overflow_add-base c = let i = c.requires.1.inside in search rules
 
 pub slice_bounds-next_of-count : goal.slice_bounds-next_of-count
 slice_bounds-next_of-count c = let i = c.requires.1.inside in search rules

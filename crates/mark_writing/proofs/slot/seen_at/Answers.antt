@@ -4,8 +4,8 @@ use mathlib.Core.Path.{refl, sym}
 use Rattle.mark_writing.proofs.Inwards.{tail-is, table-in, ready-as, looked-as}
 use Rattle.mark_writing.proofs.slot.seen_at.Goals as goal
 
-pub overflow_add-past : goal.overflow_add-past
-overflow_add-past c = let i = c.requires.0.1.inside in search rules
+pub overflow_add-base : goal.overflow_add-base
+overflow_add-base c = let i = c.requires.0.1.inside in search rules
 
 pub slice_bounds-look-count : goal.slice_bounds-look-count
 slice_bounds-look-count c = let i = c.requires.0.1.inside in search rules
@@ -29,4 +29,4 @@ pub look-requires : goal.look-requires
 look-requires c = (ready-as refl (sym (tail-is c.args.numbers.now c.args.w.base.0)) c.requires.0.0, c.requires.1)
 
 pub returns : goal.returns
-returns c = looked-as refl (tail-is c.args.numbers.now c.args.w.base.0) c.look.ensures
+returns c = looked-as c.args.w.items c.args.i c.look.result refl (tail-is c.args.numbers.now c.args.w.base.0) c.look.ensures
