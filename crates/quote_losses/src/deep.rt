@@ -9,10 +9,7 @@ pub fn open_more(open: usize) -> usize
     requires { «open» ≤ deep_most + 1 }
     ensures { («open» ≤ deep_most → result ≡ «open» + 1) × ((deep_most < «open» → result ≡ «open») × (result ≤ deep_most + 1)) }
 {
-    if DEEP_MOST < open {
-        return open;
-    }
-    open + 1
+    (open + 1).min(DEEP_MOST + 1)
 }
 
 // How many quotes are open behind a closer, likewise.
@@ -23,8 +20,5 @@ pub fn open_less(open: usize) -> usize
     if DEEP_MOST < open {
         return open;
     }
-    if open == 0 {
-        return 0;
-    }
-    open - 1
+    open.saturating_sub(1)
 }

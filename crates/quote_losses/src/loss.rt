@@ -10,7 +10,7 @@ ghost use Rattle.quote_blocks.specs.Quotes.{DepthBehind, TooDeep};
 ghost use Rattle.quote_losses.specs.Losses.{ListsToken, FewAt, ListsLosses};
 
 use crate::deep::{open_less, open_more};
-use attribution_losses::loss::put_losses;
+use attribution_losses::loss::{Counts, put_losses};
 use quote_lines::search::{attribution_size, line_of};
 use quote_tags::tag::{Kind, next_tag, tag_at};
 use text::PostAt;
@@ -26,8 +26,7 @@ pub struct Listing {
     pub open: usize,
     pub quote: usize,
     pub next: usize,
-    pub losses: usize,
-    pub bytes: usize,
+    pub counts: Counts,
 }
 
 // Lists the losses of the token at a place, a text with all up to the next place where a quote tag may begin; `post` is the masked original text.
@@ -40,69 +39,53 @@ fn list_token(
     from: Listing,
     loss_bytes: &mut [u8],
 ) -> Listing
-    requires { ((from.at.0 < length source.now) × (length source.now ≤ out_most)) × (((NextBracket source.now from.at.0 from.bracket.0 × (from.«open» ≤ deep_most + 1)) × FewAt from.at.0 from.quote from.losses from.bytes) × (Table post.now (drop base numbers.old) 0 count × (base ≤ length numbers.old))) }
-    ensures { ((((from.at.0 < result.at.0) × (result.at.0 ≤ length source.now)) × (NextBracket source.now result.at.0 result.bracket.0 × FewAt result.at.0 result.quote result.losses result.bytes)) × ListsToken source.now (tags 1 0 post.now) (take base numbers.old) loss_bytes.old from.at.0 from.quote from.next from.losses from.bytes (take base numbers.new) loss_bytes.new result.at.0 result.quote result.next result.losses result.bytes) × ((drop base numbers.new ≡ drop base numbers.old) × ((from.«open» ≤ deep_most → DepthBehind source.now from.at.0 from.«open» result.at.0 result.«open») × ((deep_most < from.«open» → result.«open» ≡ from.«open») × (result.«open» ≤ deep_most + 1)))) }
+    requires { ((from.at.0 < length source.now) × (length source.now ≤ out_most)) × (((NextBracket source.now from.at.0 from.bracket.0 × (from.«open» ≤ deep_most + 1)) × FewAt from.at.0 from.quote from.counts.losses from.counts.bytes) × (Table post.now (drop base numbers.old) 0 count × (base ≤ length numbers.old))) }
+    ensures { ((((from.at.0 < result.at.0) × (result.at.0 ≤ length source.now)) × (NextBracket source.now result.at.0 result.bracket.0 × FewAt result.at.0 result.quote result.counts.losses result.counts.bytes)) × ListsToken source.now (tags 1 0 post.now) (take base numbers.old) loss_bytes.old from.at.0 from.quote from.next from.counts.losses from.counts.bytes (take base numbers.new) loss_bytes.new result.at.0 result.quote result.next result.counts.losses result.counts.bytes) × ((drop base numbers.new ≡ drop base numbers.old) × ((from.«open» ≤ deep_most → DepthBehind source.now from.at.0 from.«open» result.at.0 result.«open») × ((deep_most < from.«open» → result.«open» ≡ from.«open») × (result.«open» ≤ deep_most + 1)))) }
 {
-    let at = from.at;
-    let known = from.bracket;
-    let quote = from.quote;
-    let next = from.next;
-    let losses = from.losses;
-    let bytes = from.bytes;
-    let open = from.open;
-    let i = at.0;
-    let tag = tag_at(source, at, known);
+    let tag = tag_at(source, from.at, from.bracket);
     let bracket = tag.bracket;
     match tag.kind {
         Kind::Opener(k) => {
-            let a = i + 7;
+            let a = from.at.0 + 7;
             let e = a + attribution_size(k);
-            let found = line_of(post, &numbers[base..], 0, count, next, &source[a..e]);
-            let c = put_losses(
+            let found = line_of(post, &numbers[base..], 0, count, from.next, &source[a..e]);
+            let counts = put_losses(
                 &source[a..e],
-                quote as u32,
+                from.quote as u32,
                 found.line,
                 &mut numbers[..base],
-                losses,
+                from.counts.losses,
                 loss_bytes,
-                bytes,
+                from.counts.bytes,
             );
             Listing {
-                at: PostAt(i + k),
+                at: PostAt(from.at.0 + k),
                 bracket,
-                open: open_more(open),
-                quote: quote + 1,
+                open: open_more(from.open),
+                quote: from.quote + 1,
                 next: found.next,
-                losses: c.losses,
-                bytes: c.bytes,
+                counts,
             }
         }
         Kind::Closer(k) => Listing {
-            at: PostAt(i + k),
+            at: PostAt(from.at.0 + k),
             bracket,
-            open: open_less(open),
-            quote,
-            next,
-            losses,
-            bytes,
+            open: open_less(from.open),
+            ..from
         },
         Kind::Plain => Listing {
-            at: next_tag(source, PostAt(i + 1)),
+            at: next_tag(source, PostAt(from.at.0 + 1)),
             bracket,
-            open,
-            quote,
-            next,
-            losses,
-            bytes,
+            ..from
         },
     }
 }
 
 // How many losses a text has, and how many bytes their fields; and whether an opener is met while as many quotes are open as may be.
+// A flag beside the counts: they are promised of a text that is too deep, too.
 #[derive(Clone, Copy)]
 pub struct Listed {
-    pub losses: usize,
-    pub bytes: usize,
+    pub counts: Counts,
     pub deep: bool,
 }
 
@@ -116,26 +99,25 @@ pub fn list_losses(
     loss_bytes: &mut [u8],
 ) -> Listed
     requires { (length source.now ≤ out_most) × (Table post.now (drop base numbers.old) 0 count × (base ≤ length numbers.old)) }
-    ensures { ListsLosses source.now (tags 1 0 post.now) (take base numbers.old) loss_bytes.old (take base numbers.new) loss_bytes.new result.losses result.bytes × TooDeep source.now result.deep }
+    ensures { ListsLosses source.now (tags 1 0 post.now) (take base numbers.old) loss_bytes.old (take base numbers.new) loss_bytes.new result.counts.losses result.counts.bytes × TooDeep source.now result.deep }
 {
-    let mut st = Listing {
+    let mut listing = Listing {
         at: PostAt(0),
         bracket: next_bracket(source, PostAt(0)),
         open: 0,
         quote: 1,
         next: 0,
-        losses: 0,
-        bytes: 0,
+        counts: Counts {
+            losses: 0,
+            bytes: 0,
+        },
     };
-    let mut i: usize = 0;
-    while i < source.len() {
-        st = list_token(source, post, numbers, base, count, st, loss_bytes);
-        let at = st.at;
-        i = at.0;
+    // A while: a token's length is the step.
+    while listing.at.0 < source.len() {
+        listing = list_token(source, post, numbers, base, count, listing, loss_bytes);
     }
     Listed {
-        losses: st.losses,
-        bytes: st.bytes,
-        deep: DEEP_MOST < st.open,
+        counts: listing.counts,
+        deep: DEEP_MOST < listing.open,
     }
 }

@@ -1,4 +1,6 @@
+pub mod Stacking
 pub mod Texts
 pub mod Passing
+pub mod Taking
 pub mod Joining
 pub mod Within

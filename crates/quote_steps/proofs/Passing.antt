@@ -3,13 +3,12 @@ use mathlib.Core.Path.{◌≡◌, refl, sym, ap, subst, ◌∙◌}
 use Prim.Native.Nat.{ℕ, suc, ◌+◌, ◌-◌, ◌≤◌, ◌<◌, max}
 use native.Mathlib.Omega.{arith}
 use native.Mathlib.Decide.{dec_le}
-use native.Mathlib.Numerals.{add-one}
 use mathlib.Core.List.{List, [], ◌∷◌, ◌++◌, append_assoc, append-nil}
 use mathlib.Core.Bool.{Bool, true, false, ◌||◌, true≢false}
 use lib.Dec.{leb}
 use borrow.Author.Tests.{leb-false}
-use lib.ListN.{length, take, drop, get_or, set, length-append, length-map}
-use lib.Seq.{length-take-le, get_or-take, take-take, take_at, drop_at, get_or-set_same, get_or-set_other}
+use lib.ListN.{length, take, drop, get_or, length-append, length-map}
+use lib.Seq.{length-take-le, get_or-take, take-take, take_at, drop_at}
 use Rattle.text.specs.Bounds.{deep_most}
 use Rattle.text.specs.Cells.{Cell, cells, bytes, part, feed}
 use Rattle.text.specs.Writes.{Holds, Appends, AppendsIn}
@@ -23,10 +22,11 @@ use Rattle.quote_tags.proofs.Plain.{PlainRun}
 use Rattle.quote_blocks.specs.Quotes.{Token, text, opens, closes, tokens, Quote, State, start, opening, held, total, close, closed, step, finish, run, quotes, finish_need, run_need, quotes_need, quote_block, too_deep_from, too_deep}
 use Rattle.quote_steps.proofs.Texts.{read-run, more-is, more-opened, run-texts, need-texts, texts-needed, deep-texts}
 use Rattle.quote_steps.specs.Passes.{texts, more, Stood, Stands, Closes, ClosesIn, Takes, TakesOne, Leaves, ClosesLast, ClosesAll, Finishing}
+use Rattle.std.specs.Prelude.{Option, Some, None}
+use Rattle.quote_steps.specs.declared.stack.Opened.{Opened}
 use Rattle.quote_steps.specs.declared.close.Areas.{Areas}
 use Rattle.quote_steps.specs.declared.pass.Reached.{Reached}
 use Rattle.quote_steps.specs.declared.pass.Passed.{Passed}
-use Rattle.quote_steps.specs.declared.pass.Passed.TheVariants.{Done, Full}
 use Rattle.attribution_parts.specs.Attribution.{caption}
 
 -- ---- an area
@@ -66,14 +66,13 @@ module _ (v : List Cell) (to : ℕ) (p c : List Cell) (h : Holds v to (p ++ c)) 
 
 -- ---- where the open quotes stand
 
--- a place that no open quote uses may change
-stood-set : (s : List ℕ) (base : ℕ) (starts tags : List ℕ) (k a b : ℕ) (qs : List Quote) → length qs ≤ k → Stood s base starts tags qs → Stood s base (set starts k a) (set tags k b) qs
+-- as many as are open
+stood-length : (s : List ℕ) (base : ℕ) (os : List Opened) (qs : List Quote) → Stood s base os qs → length os ≡ length qs
 unfolding Stood
-stood-set s base starts tags k a b [] h w = tt
-stood-set s base starts tags k a b (q ∷ qs) h w =
-    let x : get_or (set starts k a) (length qs) 0 ≡ get_or starts (length qs) 0 = get_or-set_other starts k (length qs) a 0 (omega arith) in
-    let y : get_or (set tags k b) (length qs) 0 ≡ get_or tags (length qs) 0 = get_or-set_other tags k (length qs) b 0 (omega arith) in
-    (x ∙ w.0, rw y w.1, stood-set s base starts tags k a b qs (omega arith) w.2)
+stood-length s base [] [] w = refl
+stood-length s base (o ∷ os) (q ∷ qs) w = ap suc (stood-length s base os qs w.2)
+stood-length s base [] (q ∷ qs) w = absurd w
+stood-length s base (o ∷ os) [] w = absurd w
 
 opening-length : (qs : List Quote) → length (opening qs) ≡ held qs
 unfolding opening held
@@ -82,8 +81,8 @@ opening-length (q ∷ qs) = simp length-append (omega (arith, opening-length qs)
 
 -- ---- one token
 
-module _ (caption : List ℕ → List ℕ) (e end : ℕ) (P : List Cell) (bs ns : List ℕ) (to : ℕ) (starts tags : List ℕ) (d : ℕ) (s : State)
-    (w : Stands e P (take end (cells bs ns)) to starts tags d s) (he : e ≤ length P) (hp : length P ≤ end) (hb : end ≤ length bs) (hn : end ≤ length ns) (ht : to ≤ end) where
+module _ (caption : List ℕ → List ℕ) (e end : ℕ) (P : List Cell) (bs ns : List ℕ) (to : ℕ) (os : List Opened) (s : State)
+    (w : Stands e P (take end (cells bs ns)) to os s) (he : e ≤ length P) (hp : length P ≤ end) (hb : end ≤ length bs) (hn : end ≤ length ns) (ht : to ≤ end) where
   within : to ≤ length (take end (cells bs ns))
   within = let a = area-length bs ns end hb hn in omega arith
 
@@ -116,29 +115,26 @@ module _ (caption : List ℕ → List ℕ) (e end : ℕ) (P : List Cell) (bs ns 
       ∙ ap (λ (l : List Cell). opening s.opened ++ l) (ap (λ (l : List Cell). s.now ++ l) p ∙ sym (append_assoc s.now (c ∷ []) rest)))
 
   module _ (i : ℕ) {k : ℕ} (ek : k ≡ opener_size (drop i (take e bs))) where
-    pub takes-opener : (k ≡ 0 → ⊥) → i < e → d < length starts → d < length tags
-        → Takes caption e P (take end (cells bs ns)) to starts tags d i (take end (cells bs ns)) to (set starts d to) (set tags d i) (d + 1) (i + k) s
+    pub takes-opener : (k ≡ 0 → ⊥) → i < e
+        → Takes caption e P (take end (cells bs ns)) to os i (take end (cells bs ns)) to (record { start = record { 0 = to }; tag = record { 0 = i } } ∷ os) (i + k) s
     unfolding step Stood opening texts more
-    takes-opener n lt hs hg =
+    takes-opener n lt =
         let l = text-length in
         let z = at-end in
-        let x : get_or (set starts d to) (length s.opened) 0 ≡ to = rw (← w.deep) (get_or-set_same starts d to 0 hs) in
-        let y : get_or (set tags d i) (length s.opened) 0 ≡ i = rw (← w.deep) (get_or-set_same tags d i 0 hg) in
         record {
           token = opens (take k (drop i (take e P))) (attribution_of (drop i (take e bs)));
           behind = [];
           reads = read-opener (take e P) (take e bs) text-bytes i ek n;
           stands = record {
             text = rw append-nil w.text;
-            deep = ap (λ (m : ℕ). m + 1) w.deep ∙ add-one (length s.opened);
-            stood = (x ∙ z, (rw y (omega arith), rw (y, text-bytes)), stood-set _ _ starts tags d to i s.opened (let q = w.deep in omega arith) w.stood);
+            stood = (z, (omega arith, rw text-bytes refl), w.stood);
           };
         }
 
     module _ {j : ℕ} (zk : k ≡ 0) (ej : j ≡ closer_size (drop i (take e bs))) where
       -- with the text up to the next place where a quote tag may begin
       pub takes-text : j ≡ 0 → i < e → {q : ℕ} → PlainRun (take e bs) (i + 1) q → (v' : List Cell) (to' : ℕ) → Appends (take end (cells bs ns)) to v' to' (part i q (cells bs ns))
-          → Takes caption e P (take end (cells bs ns)) to starts tags d i v' to' starts tags d q s
+          → Takes caption e P (take end (cells bs ns)) to os i v' to' os q s
       unfolding step
       takes-text zj lt {q} run v' to' a =
           let r : length (take e bs) ≡ e = length-take-le e bs (omega arith) in
@@ -151,78 +147,74 @@ module _ (caption : List ℕ → List ℕ) (e end : ℕ) (P : List Cell) (bs ns 
             reads =
                 read-text (take e P) (take e bs) text-bytes i (omega arith) ek zk ej zj
                 ∙ ap (λ (x : List Token). text (get_or (take e P) i feed) ∷ x) (reads_on (i + 1) q run (omega (arith, w')));
-            stands = subst (Stands e P v' to' starts tags d) (sym (more-is (part (i + 1) q (cells bs ns)) (step caption (text (get_or (take e P) i feed)) s))) (record {
+            stands = subst (Stands e P v' to' os) (sym (more-is (part (i + 1) q (cells bs ns)) (step caption (text (get_or (take e P) i feed)) s))) (record {
               text = subst (Holds v' to') (joined-on (get_or (take e P) i feed) (part (i + 1) q (cells bs ns)) (part i q (cells bs ns)) p) (a.step _ w.text);
-              deep = w.deep;
               stood = w.stood;
             });
           }
 
       -- no quote is open
-      pub takes-stray : (j ≡ 0 → ⊥) → d ≡ 0 → Takes caption e P (take end (cells bs ns)) to starts tags d i (take end (cells bs ns)) to starts tags d (i + j) s
-      unfolding step closed texts more
-      takes-stray n zd = record {
+      pub takes-stray : (j ≡ 0 → ⊥) → os ≡ [] → Takes caption e P (take end (cells bs ns)) to os i (take end (cells bs ns)) to os (i + j) s
+      unfolding step closed texts more Stood
+      takes-stray n none = record {
         token = closes (take j (drop i (take e P)));
         behind = [];
         reads = read-closer (take e P) (take e bs) text-bytes i ek zk ej n;
-        stands = by s.opened (sym w.deep ∙ zd) w;
+        stands = by s.opened (sym (stood-length _ _ os s.opened w.stood) ∙ ap length none) w;
       }
         where
-          by : (qs : List Quote) → length qs ≡ 0 → Stands e P (take end (cells bs ns)) to starts tags d (record { now = s.now; opened = qs })
-              → Stands e P (take end (cells bs ns)) to starts tags d (closed caption s.now qs)
+          by : (qs : List Quote) → length qs ≡ 0 → Stands e P (take end (cells bs ns)) to os (record { now = s.now; opened = qs })
+              → Stands e P (take end (cells bs ns)) to os (closed caption s.now qs)
           by [] q h = h
           by (x ∷ qs) q h = absurd (omega arith)
 
-  -- the innermost quote is closed; begin and tag are where its content and its opener stand
-  module _ (begin tag : ℕ) (eb : length P ≤ get_or starts (d - 1) 0 → get_or starts (d - 1) 0 ≤ to → begin ≡ get_or starts (d - 1) 0) (et : get_or tags (d - 1) 0 ≤ e → tag ≡ get_or tags (d - 1) 0)
-      (v' : List Cell) (to' : ℕ) (cl : Closes (take end (cells bs ns)) begin to v' to' (quote_block (caption (attribution_of (drop tag (take e bs)))))) where
-    pub stands-closed : (now : List Cell) (q : Quote) (qs : List Quote) → s ≡ record { now = now; opened = q ∷ qs }
-        → Stands e P v' to' starts tags (d - 1) (record { now = close caption q now; opened = qs })
-    unfolding Stood opening close
-    stands-closed now q qs es =
-        let h : Stands e P (take end (cells bs ns)) to starts tags d (record { now = now; opened = q ∷ qs }) = rw (sym es) w in
-        let dl : d ≡ suc (length qs) = h.deep in
-        let di : d - 1 ≡ length qs = omega arith in
-        let l = length-append P ((opening qs ++ q.outer) ++ now) in
-        let l' = length-append (opening qs ++ q.outer) now in
-        let z : to ≡ length (P ++ ((opening qs ++ q.outer) ++ now)) = h.text.end (holds_fits _ to _ h.text within) in
-        let x : get_or starts (d - 1) 0 ≡ length P + length (opening qs ++ q.outer) = rw di h.stood.0 in
-        let tl = text-length in
-        let b : begin ≡ length P + length (opening qs ++ q.outer) = eb (omega arith) (omega arith) ∙ x in
-        let y : tag ≡ get_or tags (length qs) 0 = et (rw di (omega (arith, h.stood.1.0, tl))) ∙ ap (λ (m : ℕ). get_or tags m 0) di in
-        let a : q.attribution ≡ attribution_of (drop tag (take e bs)) = h.stood.1.1 ∙ rw (y, text-bytes) in
-        let lp = length-append P (opening qs ++ q.outer) in
-        record {
-          text =
-              rw (a, ← append_assoc (opening qs) q.outer (quote_block (caption (attribution_of (drop tag (take e bs)))) now), ← append_assoc P (opening qs ++ q.outer) (quote_block (caption (attribution_of (drop tag (take e bs)))) now))
-              (cl.step (P ++ (opening qs ++ q.outer)) now (rw append_assoc h.text) (omega arith));
-          deep = di;
-          stood = h.stood.2;
-        }
+  -- the innermost quote o is closed; begin and tag are where its content and its opener stand
+  module _ (o : Opened) (rest : List Opened) (eo : os ≡ o ∷ rest) where
+    module _ (begin tag : ℕ) (eb : length P ≤ o.start.0 → o.start.0 ≤ to → begin ≡ o.start.0) (et : o.tag.0 ≤ e → tag ≡ o.tag.0)
+        (v' : List Cell) (to' : ℕ) (cl : Closes (take end (cells bs ns)) begin to v' to' (quote_block (caption (attribution_of (drop tag (take e bs)))))) where
+      pub stands-closed : (now : List Cell) (q : Quote) (qs : List Quote) → s ≡ record { now = now; opened = q ∷ qs }
+          → Stands e P v' to' rest (record { now = close caption q now; opened = qs })
+      unfolding Stood opening close
+      stands-closed now q qs es =
+          let h : Stands e P (take end (cells bs ns)) to (o ∷ rest) (record { now = now; opened = q ∷ qs }) = rw (sym es, sym eo) w in
+          let l = length-append P ((opening qs ++ q.outer) ++ now) in
+          let l' = length-append (opening qs ++ q.outer) now in
+          let z : to ≡ length (P ++ ((opening qs ++ q.outer) ++ now)) = h.text.end (holds_fits _ to _ h.text within) in
+          let tl = text-length in
+          let b : begin ≡ length P + length (opening qs ++ q.outer) = eb (omega (arith, h.stood.0)) (omega (arith, h.stood.0)) ∙ h.stood.0 in
+          let y : tag ≡ o.tag.0 = et (omega (arith, h.stood.1.0, tl)) in
+          let a : q.attribution ≡ attribution_of (drop tag (take e bs)) = h.stood.1.1 ∙ rw (y, text-bytes) in
+          let lp = length-append P (opening qs ++ q.outer) in
+          record {
+            text =
+                rw (a, ← append_assoc (opening qs) q.outer (quote_block (caption (attribution_of (drop tag (take e bs)))) now), ← append_assoc P (opening qs ++ q.outer) (quote_block (caption (attribution_of (drop tag (take e bs)))) now))
+                (cl.step (P ++ (opening qs ++ q.outer)) now (rw append_assoc h.text) (omega arith));
+            stood = h.stood.2;
+          }
 
-  pub takes-close : (i : ℕ) {k j : ℕ} → k ≡ opener_size (drop i (take e bs)) → k ≡ 0 → j ≡ closer_size (drop i (take e bs)) → (j ≡ 0 → ⊥) → (d ≡ 0 → ⊥)
-      → (v' : List Cell) (to' : ℕ) → ((now : List Cell) (q : Quote) (qs : List Quote) → Stands e P (take end (cells bs ns)) to starts tags d (record { now = now; opened = q ∷ qs })
-      → Stands e P v' to' starts tags (d - 1) (record { now = close caption q now; opened = qs }))
-      → Takes caption e P (take end (cells bs ns)) to starts tags d i v' to' starts tags (d - 1) (i + j) s
-  unfolding step closed texts more
-  takes-close i {k} {j} ek zk ej n pos v' to' cl = record {
-    token = closes (take j (drop i (take e P)));
-    behind = [];
-    reads = read-closer (take e P) (take e bs) text-bytes i ek zk ej n;
-    stands = by s.opened w;
-  }
-    where
-      by : (qs : List Quote) → Stands e P (take end (cells bs ns)) to starts tags d (record { now = s.now; opened = qs }) → Stands e P v' to' starts tags (d - 1) (closed caption s.now qs)
-      by [] h = absurd (pos h.deep)
-      by (x ∷ qs) h = cl s.now x qs h
+    pub takes-close : (i : ℕ) {k j : ℕ} → k ≡ opener_size (drop i (take e bs)) → k ≡ 0 → j ≡ closer_size (drop i (take e bs)) → (j ≡ 0 → ⊥)
+        → (v' : List Cell) (to' : ℕ) → ((now : List Cell) (q : Quote) (qs : List Quote) → Stands e P (take end (cells bs ns)) to (o ∷ rest) (record { now = now; opened = q ∷ qs })
+        → Stands e P v' to' rest (record { now = close caption q now; opened = qs }))
+        → Takes caption e P (take end (cells bs ns)) to os i v' to' rest (i + j) s
+    unfolding step closed texts more Stood
+    takes-close i {k} {j} ek zk ej n v' to' cl = record {
+      token = closes (take j (drop i (take e P)));
+      behind = [];
+      reads = read-closer (take e P) (take e bs) text-bytes i ek zk ej n;
+      stands = by s.opened (rw (sym eo) w);
+    }
+      where
+        by : (qs : List Quote) → Stands e P (take end (cells bs ns)) to (o ∷ rest) (record { now = s.now; opened = qs }) → Stands e P v' to' rest (closed caption s.now qs)
+        by [] h = absurd h.stood
+        by (x ∷ qs) h = cl s.now x qs h
 
-module _ (caption : List ℕ → List ℕ) (e base end : ℕ) (bs ns : List ℕ) (to : ℕ) (starts tags : List ℕ) (d : ℕ) (he : e ≤ base) (hp : base ≤ end) (hb : end ≤ length bs) (hn : end ≤ length ns) (ht : to ≤ end) where
-  pub closes-last : (begin tag : ℕ) → (base ≤ get_or starts (d - 1) 0 → get_or starts (d - 1) 0 ≤ to → begin ≡ get_or starts (d - 1) 0) → (get_or tags (d - 1) 0 ≤ e → tag ≡ get_or tags (d - 1) 0)
+module _ (caption : List ℕ → List ℕ) (e base end : ℕ) (bs ns : List ℕ) (to : ℕ) (he : e ≤ base) (hp : base ≤ end) (hb : end ≤ length bs) (hn : end ≤ length ns) (ht : to ≤ end) where
+  pub closes-last : (o : Opened) (begin tag : ℕ) → (base ≤ o.start.0 → o.start.0 ≤ to → begin ≡ o.start.0) → (o.tag.0 ≤ e → tag ≡ o.tag.0)
       → {bs' ns' : List ℕ} {to' : ℕ} → ClosesIn bs ns end begin to bs' ns' to' (quote_block (caption (attribution_of (drop tag (take e bs)))))
-      → ClosesLast caption e base end bs ns to starts tags d bs' ns' to'
-  closes-last begin tag eb et cl = record {
-    each = λ P now q qs e_p w.
-        stands-closed caption e end P bs ns to starts tags d (record { now = now; opened = q ∷ qs }) w (omega arith) (omega arith) hb hn ht begin tag (λ le. eb (omega arith)) et _ _ cl.closes now q qs refl;
+      → ClosesLast caption e base end bs ns to o bs' ns' to'
+  closes-last o begin tag eb et cl = record {
+    each = λ P now q qs os e_p w.
+        stands-closed caption e end P bs ns to (o ∷ os) (record { now = now; opened = q ∷ qs }) w (omega arith) (omega arith) hb hn ht o os refl begin tag (λ le. eb (omega arith)) et _ _ cl.closes now q qs refl;
   }
 
   -- what stands before `begin` stands there still
@@ -239,21 +231,20 @@ module _ (caption : List ℕ → List ℕ) (e base end : ℕ) (bs ns : List ℕ)
   appending-keeps {bs'} {ns'} a h lb ln = text-kept to bs' ns' (omega arith) ht (omega arith) (omega arith) a.appends.keeps
 
   module _ (i : ℕ) {k : ℕ} (lt : i < e) (ek : k ≡ opener_size (drop i (take e bs))) where
-    pub opener-taken : (k ≡ 0 → ⊥) → d < length starts → d < length tags
-        → TakesOne caption e base end bs ns to starts tags d i bs ns to (set starts d to) (set tags d i) (d + 1) (i + k)
-    opener-taken n hs hg = record { each = λ P s e_p w. takes-opener caption e end P bs ns to starts tags d s w (omega arith) (omega arith) hb hn ht i ek n lt hs hg }
+    pub opener-taken : (os : List Opened) → (k ≡ 0 → ⊥) → TakesOne caption e base end bs ns to os i bs ns to (record { start = record { 0 = to }; tag = record { 0 = i } } ∷ os) (i + k)
+    opener-taken os n = record { each = λ P s e_p w. takes-opener caption e end P bs ns to os s w (omega arith) (omega arith) hb hn ht i ek n lt }
 
     module _ {j : ℕ} (zk : k ≡ 0) (ej : j ≡ closer_size (drop i (take e bs))) where
-      pub stray-taken : (j ≡ 0 → ⊥) → d ≡ 0 → TakesOne caption e base end bs ns to starts tags d i bs ns to starts tags d (i + j)
-      stray-taken n zd = record { each = λ P s e_p w. takes-stray caption e end P bs ns to starts tags d s w (omega arith) (omega arith) hb hn ht i ek zk ej n zd }
+      pub stray-taken : (os : List Opened) → (j ≡ 0 → ⊥) → os ≡ [] → TakesOne caption e base end bs ns to os i bs ns to os (i + j)
+      stray-taken os n none = record { each = λ P s e_p w. takes-stray caption e end P bs ns to os s w (omega arith) (omega arith) hb hn ht i ek zk ej n none }
 
-      pub closer-taken : (j ≡ 0 → ⊥) → (d ≡ 0 → ⊥) → {bs' ns' : List ℕ} {to' : ℕ} → ClosesLast caption e base end bs ns to starts tags d bs' ns' to'
-          → TakesOne caption e base end bs ns to starts tags d i bs' ns' to' starts tags (d - 1) (i + j)
-      closer-taken n pos cl = record { each = λ P s e_p w. takes-close caption e end P bs ns to starts tags d s w (omega arith) (omega arith) hb hn ht i ek zk ej n pos _ _ (λ now q qs h. cl.each P now q qs e_p h) }
+      pub closer-taken : (os : List Opened) (o : Opened) (rest : List Opened) → (j ≡ 0 → ⊥) → os ≡ o ∷ rest → {bs' ns' : List ℕ} {to' : ℕ} → ClosesLast caption e base end bs ns to o bs' ns' to'
+          → TakesOne caption e base end bs ns to os i bs' ns' to' rest (i + j)
+      closer-taken os o rest n eo cl = record { each = λ P s e_p w. takes-close caption e end P bs ns to os s w (omega arith) (omega arith) hb hn ht o rest eo i ek zk ej n _ _ (λ now q qs h. cl.each P now q qs rest e_p h) }
 
-      pub text-taken : j ≡ 0 → {q : ℕ} → PlainRun (take e bs) (i + 1) q → {bs' ns' : List ℕ} {to' : ℕ} → AppendsIn bs ns end to bs' ns' to' (part i q (cells bs ns))
-          → TakesOne caption e base end bs ns to starts tags d i bs' ns' to' starts tags d q
-      text-taken zj run a = record { each = λ P s e_p w. takes-text caption e end P bs ns to starts tags d s w (omega arith) (omega arith) hb hn ht i ek zk ej zj lt run _ _ a.appends }
+      pub text-taken : (os : List Opened) → j ≡ 0 → {q : ℕ} → PlainRun (take e bs) (i + 1) q → {bs' ns' : List ℕ} {to' : ℕ} → AppendsIn bs ns end to bs' ns' to' (part i q (cells bs ns))
+          → TakesOne caption e base end bs ns to os i bs' ns' to' os q
+      text-taken os zj run a = record { each = λ P s e_p w. takes-text caption e end P bs ns to os s w (omega arith) (omega arith) hb hn ht i ek zk ej zj lt run _ _ a.appends }
 
 -- ---- all tokens
 
@@ -284,30 +275,29 @@ module _ (caption : List ℕ → List ℕ) where
 
   module _ (e end : ℕ) (P : List Cell) where
     -- what is left of the text, taken from the state that the area holds, gives all of it, where the contents had `seen` cells at most
-    pub record Running (v : List Cell) (to : ℕ) (starts tags : List ℕ) (depth i seen : ℕ) : Type 0 where
+    pub record Running (v : List Cell) (to : ℕ) (os : List Opened) (i seen : ℕ) : Type 0 where
       pub state : State
-      pub stands : Stands e P v to starts tags depth state
+      pub stands : Stands e P v to os state
       pub same : quotes caption (take e P) ≡ run caption (tokens 0 (drop i (take e P))) state
       pub need : quotes_need caption (take e P) ≡ max seen (run_need caption (tokens 0 (drop i (take e P))) state)
       pub short : length P + seen ≤ end
-      pub deep : too_deep_from depth (tokens 0 (drop i (take e P))) ≡ false
+      pub deep : too_deep_from (length os) (tokens 0 (drop i (take e P))) ≡ false
 
     -- how much the area holds
-    holds-total : (v : List Cell) (to : ℕ) (starts tags : List ℕ) (d : ℕ) (s : State) → Stands e P v to starts tags d s → length (P ++ (opening s.opened ++ s.now)) ≡ length P + total s
+    holds-total : (v : List Cell) (to : ℕ) (os : List Opened) (s : State) → Stands e P v to os s → length (P ++ (opening s.opened ++ s.now)) ≡ length P + total s
     unfolding total
-    holds-total v to starts tags d s w =
+    holds-total v to os s w =
         let a = length-append P (opening s.opened ++ s.now) in
         let b = length-append (opening s.opened) s.now in
         let c = opening-length s.opened in
         omega arith
 
-    pub running-start : (v : List Cell) (starts tags : List ℕ) → take (length P) v ≡ P → length P ≤ length v → too_deep (take e P) ≡ false → length P ≤ end → Running v (length P) starts tags 0 0 0
+    pub running-start : (v : List Cell) → take (length P) v ≡ P → length P ≤ length v → too_deep (take e P) ≡ false → length P ≤ end → Running v (length P) [] 0 0
     unfolding quotes quotes_need too_deep Stood opening
-    running-start v starts tags h le z f = record {
+    running-start v h le z f = record {
       state = start;
       stands = record {
         text = rw append-nil (record { end = λ _. refl; text = λ _. h; full = λ lt. absurd (omega arith) });
-        deep = refl;
         stood = tt;
       };
       same = refl;
@@ -316,17 +306,17 @@ module _ (caption : List ℕ → List ℕ) where
       deep = z;
     }
 
-    module _ {v : List Cell} {to : ℕ} {starts tags : List ℕ} {d i seen : ℕ} (w : Running v to starts tags d i seen) (size : length v ≡ end) (fit : to ≤ end) where
+    module _ {v : List Cell} {to : ℕ} {os : List Opened} {i seen : ℕ} (w : Running v to os i seen) (size : length v ≡ end) (fit : to ≤ end) where
       total-is : to ≡ length P + total w.state
-      total-is = let a = holds-total v to starts tags d w.state w.stands in let b = w.stands.text.end (holds_fits v to _ w.stands.text (omega arith)) in omega arith
+      total-is = let a = holds-total v to os w.state w.stands in let b = w.stands.text.end (holds_fits v to _ w.stands.text (omega arith)) in omega arith
 
-      pub running-room : {k : ℕ} (s : List ℕ) → bytes (take e P) ≡ s → k ≡ opener_size (drop i s) → (k ≡ 0 → ⊥) → d < 64
+      pub running-room : {k : ℕ} (s : List ℕ) → bytes (take e P) ≡ s → k ≡ opener_size (drop i s) → (k ≡ 0 → ⊥) → length os < 64
       unfolding too_deep_from
       running-room s eb ek n =
-          let z : (leb 64 d || _) ≡ false = rw (read-opener (take e P) s eb i ek n) at w.deep in
-          leb-false 64 d (or-false (leb 64 d) _ z).0
+          let z : (leb 64 (length os) || _) ≡ false = rw (read-opener (take e P) s eb i ek n) at w.deep in
+          leb-false 64 (length os) (or-false (leb 64 (length os)) _ z).0
 
-      pub running-end : length (take e P) ≤ i → Finishing caption e end P v to starts tags d seen
+      pub running-end : length (take e P) ≤ i → Finishing caption e end P v to os seen
       unfolding run run_need
       running-end le =
           let z : tokens 0 (drop i (take e P)) ≡ [] = read-end (take e P) (bytes (take e P)) refl i (rw (length-map (take e P) (λ (c : Cell). c.byte)) le) in
@@ -339,7 +329,7 @@ module _ (caption : List ℕ → List ℕ) where
             short = w.short;
           }
 
-      module _ {v' : List Cell} {to' : ℕ} {starts' tags' : List ℕ} {d' i' : ℕ} (t : Takes caption e P v to starts tags d i v' to' starts' tags' d' i' w.state) (size' : length v' ≡ end) where
+      module _ {v' : List Cell} {to' : ℕ} {os' : List Opened} {i' : ℕ} (t : Takes caption e P v to os i v' to' os' i' w.state) (size' : length v' ≡ end) where
         rest : List Token
         rest = tokens 0 (drop i' (take e P))
 
@@ -358,7 +348,7 @@ module _ (caption : List ℕ → List ℕ) where
         unfolding run_need rest stepped
         on-need = let n = rw t.reads at w.need in let z = total-is in let b = on_texts in omega (arith, n, z, b)
 
-        pub running-on : to' ≤ end → Running v' to' starts' tags' d' i' (max seen (to - length P))
+        pub running-on : to' ≤ end → Running v' to' os' i' (max seen (to - length P))
         unfolding run rest stepped
         running-on le = record {
           state = more (step caption t.token w.state) t.behind;
@@ -366,15 +356,15 @@ module _ (caption : List ℕ → List ℕ) where
           same = rw t.reads at w.same ∙ run-texts caption t.behind (tokens 0 (drop i' (take e P))) (step caption t.token w.state);
           need = on-need;
           short = let k = w.short in omega (arith, k, fit);
-          deep = rw (t.stands.deep, more-opened t.behind (step caption t.token w.state))
-              (sym (deep-texts _ t.behind (tokens 0 (drop i' (take e P)))) ∙ deep_step t.token _ w.state (rw (t.reads, w.stands.deep) at w.deep));
+          deep = rw (stood-length _ _ os' _ t.stands.stood, more-opened t.behind (step caption t.token w.state))
+              (sym (deep-texts _ t.behind (tokens 0 (drop i' (take e P)))) ∙ deep_step t.token _ w.state (rw (t.reads, stood-length _ _ os _ w.stands.stood) at w.deep));
         }
 
         pub running-full : end < to' → end < length P + quotes_need caption (take e P)
         unfolding rest stepped
         running-full lt =
             let s' : State = more (step caption t.token w.state) t.behind in
-            let a = holds-total v' to' starts' tags' d' s' t.stands in
+            let a = holds-total v' to' os' s' t.stands in
             let over : length P + total s' ≤ end → ⊥ = λ le. (let q = t.stands.text.end (omega arith) in omega arith) in
             let b = total-needed (tokens 0 (drop i' (take e P))) s' in
             let n = on-need in
@@ -383,29 +373,29 @@ module _ (caption : List ℕ → List ℕ) where
     -- ---- closing what is open at the end
 
     -- closing what the area holds gives what closing all of it does
-    pub record Closing (now₀ : List Cell) (qs₀ : List Quote) (seen₀ : ℕ) (v : List Cell) (to : ℕ) (starts tags : List ℕ) (depth seen : ℕ) : Type 0 where
+    pub record Closing (now₀ : List Cell) (qs₀ : List Quote) (seen₀ : ℕ) (v : List Cell) (to : ℕ) (os : List Opened) (seen : ℕ) : Type 0 where
       pub now : List Cell
       pub opened : List Quote
-      pub stands : Stands e P v to starts tags depth (record { now = now; opened = opened })
+      pub stands : Stands e P v to os (record { now = now; opened = opened })
       pub same : finish caption now₀ qs₀ ≡ finish caption now opened
       pub need : max seen₀ (finish_need caption now₀ qs₀) ≡ max seen (finish_need caption now opened)
       pub short : length P + seen ≤ end
 
-    pub closing-start : {v : List Cell} {to : ℕ} {starts tags : List ℕ} {d seen : ℕ} (now : List Cell) (qs : List Quote) → length P + seen ≤ end → Stands e P v to starts tags d (record { now = now; opened = qs })
-        → Closing now qs seen v to starts tags d seen
+    pub closing-start : {v : List Cell} {to : ℕ} {os : List Opened} {seen : ℕ} (now : List Cell) (qs : List Quote) → length P + seen ≤ end → Stands e P v to os (record { now = now; opened = qs })
+        → Closing now qs seen v to os seen
     closing-start now qs f w = record { now = now; opened = qs; stands = w; same = refl; need = refl; short = f }
 
-    module _ {now₀ : List Cell} {qs₀ : List Quote} {seen₀ : ℕ} {v : List Cell} {to : ℕ} {starts tags : List ℕ} {d seen : ℕ} (w : Closing now₀ qs₀ seen₀ v to starts tags d seen) (size : length v ≡ end) (fit : to ≤ end) where
+    module _ {now₀ : List Cell} {qs₀ : List Quote} {seen₀ : ℕ} {v : List Cell} {to : ℕ} {os : List Opened} {seen : ℕ} (w : Closing now₀ qs₀ seen₀ v to os seen) (size : length v ≡ end) (fit : to ≤ end) where
       held_small : (length P + (held w.opened + length w.now) ≤ end) × (to ≡ length P + (held w.opened + length w.now))
       unfolding total
-      held_small = let a = holds-total v to starts tags d _ w.stands in let f = holds_fits v to _ w.stands.text (omega arith) in let b = w.stands.text.end f in (omega arith, omega arith)
+      held_small = let a = holds-total v to os _ w.stands in let f = holds_fits v to _ w.stands.text (omega arith) in let b = w.stands.text.end f in (omega arith, omega arith)
 
-      pub closing_end : d ≡ 0 → (n : ℕ) → n ≡ max seen (to - length P)
+      pub closing_end : os ≡ [] → (n : ℕ) → n ≡ max seen (to - length P)
           → ((length P + max seen₀ (finish_need caption now₀ qs₀) ≤ end) × (n ≡ max seen₀ (finish_need caption now₀ qs₀))) × ((to ≡ length P + length (finish caption now₀ qs₀)) × (part (length P) to v ≡ finish caption now₀ qs₀))
       unfolding finish finish_need held opening
-      closing_end z n en = by w.opened (sym w.stands.deep ∙ z) w.stands w.same w.need held_small
+      closing_end z n en = by w.opened (sym (stood-length _ _ os w.opened w.stands.stood) ∙ ap length z) w.stands w.same w.need held_small
         where
-          by : (qs : List Quote) → length qs ≡ 0 → Stands e P v to starts tags d (record { now = w.now; opened = qs }) → finish caption now₀ qs₀ ≡ finish caption w.now qs
+          by : (qs : List Quote) → length qs ≡ 0 → Stands e P v to os (record { now = w.now; opened = qs }) → finish caption now₀ qs₀ ≡ finish caption w.now qs
               → max seen₀ (finish_need caption now₀ qs₀) ≡ max seen (finish_need caption w.now qs)
               → (length P + (held qs + length w.now) ≤ end) × (to ≡ length P + (held qs + length w.now))
               → ((length P + max seen₀ (finish_need caption now₀ qs₀) ≤ end) × (n ≡ max seen₀ (finish_need caption now₀ qs₀))) × ((to ≡ length P + length (finish caption now₀ qs₀)) × (part (length P) to v ≡ finish caption now₀ qs₀))
@@ -415,15 +405,15 @@ module _ (caption : List ℕ → List ℕ) where
               let s = w.short in
               ((omega (arith, k, f.0, s), omega (arith, en, k, f.1)), (omega (arith, f.1, q), holds-part v to P w.now h.text (omega arith) (length P) refl ∙ sym r))
 
-      module _ {v' : List Cell} {to' : ℕ} (pos : d ≡ 0 → ⊥)
-          (cl : (now : List Cell) (q : Quote) (qs : List Quote) → Stands e P v to starts tags d (record { now = now; opened = q ∷ qs })
-          → Stands e P v' to' starts tags (d - 1) (record { now = close caption q now; opened = qs })) (size' : length v' ≡ end) where
-        closed-one : (qs : List Quote) → Stands e P v to starts tags d (record { now = w.now; opened = qs }) → finish caption now₀ qs₀ ≡ finish caption w.now qs
+      module _ {v' : List Cell} {to' : ℕ} (o : Opened) (rest : List Opened) (eo : os ≡ o ∷ rest)
+          (cl : (now : List Cell) (q : Quote) (qs : List Quote) → Stands e P v to (o ∷ rest) (record { now = now; opened = q ∷ qs })
+          → Stands e P v' to' rest (record { now = close caption q now; opened = qs })) (size' : length v' ≡ end) where
+        closed-one : (qs : List Quote) → Stands e P v to (o ∷ rest) (record { now = w.now; opened = qs }) → finish caption now₀ qs₀ ≡ finish caption w.now qs
             → max seen₀ (finish_need caption now₀ qs₀) ≡ max seen (finish_need caption w.now qs)
             → (length P + (held qs + length w.now) ≤ end) × (to ≡ length P + (held qs + length w.now))
-            → Closing now₀ qs₀ seen₀ v' to' starts tags (d - 1) (max seen (to - length P))
-        unfolding finish finish_need
-        closed-one [] h r n f = absurd (pos h.deep)
+            → Closing now₀ qs₀ seen₀ v' to' rest (max seen (to - length P))
+        unfolding finish finish_need Stood
+        closed-one [] h r n f = absurd h.stood
         closed-one (q ∷ qs) h r n f = record {
           now = close caption q w.now;
           opened = qs;
@@ -433,104 +423,105 @@ module _ (caption : List ℕ → List ℕ) where
           short = let k = w.short in omega (arith, k, fit);
         }
 
-        pub closing-on : Closing now₀ qs₀ seen₀ v' to' starts tags (d - 1) (max seen (to - length P))
-        closing-on = closed-one w.opened w.stands w.same w.need held_small
+        pub closing-on : Closing now₀ qs₀ seen₀ v' to' rest (max seen (to - length P))
+        closing-on = closed-one w.opened (rw (sym eo) w.stands) w.same w.need held_small
 
         pub closing-full : end < to' → end < length P + max seen₀ (finish_need caption now₀ qs₀)
         unfolding total
         closing-full lt =
             let k = closing-on in
-            let a = holds-total v' to' starts tags (d - 1) _ k.stands in
+            let a = holds-total v' to' rest _ k.stands in
             let b = finish-needs k.now k.opened in
             elim (dec_le (length P + (held k.opened + length k.now)) end) [ yes le ↦ (let q = k.stands.text.end (omega arith) in absurd (omega arith)) | no le ↦ omega (arith, k.need, b, le) ]
 
 -- ---- the loops
 
-module _ (m : Areas) (bs₀ ns₀ starts tags : List ℕ) (r : Reached) where
+module _ (m : Areas) (bs₀ ns₀ : List ℕ) (os₀ : List Opened) (r : Reached) where
   -- of all that may be open at the start
-  pub record ClosingAll (bs ns : List ℕ) (to d seen : ℕ) : Type 0 where
-    pub each : (P now : List Cell) (qs : List Quote) → length P ≡ m.base.0 → m.base.0 + r.seen ≤ m.end.0 → Stands m.text.0 P (take m.end.0 (cells bs₀ ns₀)) r.to.0 starts tags r.depth (record { now = now; opened = qs })
-        → Closing caption m.text.0 m.end.0 P now qs r.seen (take m.end.0 (cells bs ns)) to starts tags d seen
+  pub record ClosingAll (bs ns : List ℕ) (to : ℕ) (os : List Opened) (seen : ℕ) : Type 0 where
+    pub each : (P now : List Cell) (qs : List Quote) → length P ≡ m.base.0 → m.base.0 + r.seen ≤ m.end.0 → Stands m.text.0 P (take m.end.0 (cells bs₀ ns₀)) r.to.0 os₀ (record { now = now; opened = qs })
+        → Closing caption m.text.0 m.end.0 P now qs r.seen (take m.end.0 (cells bs ns)) to os seen
 
-  pub all_start : ClosingAll bs₀ ns₀ r.to.0 r.depth r.seen
+  pub all_start : ClosingAll bs₀ ns₀ r.to.0 os₀ r.seen
   all_start = record { each = λ P now qs e_p f st. closing-start caption m.text.0 m.end.0 P now qs (omega (arith, e_p, f)) st }
 
-  module _ {bs ns : List ℕ} {to d seen : ℕ} (w : ClosingAll bs ns to d seen) (hb : m.end.0 ≤ length bs) (hn : m.end.0 ≤ length ns) (fit : to ≤ m.end.0) where
-    pub all_end : d ≡ 0 → (n : ℕ) → n ≡ max seen (to - m.base.0) → ClosesAll m bs₀ ns₀ starts tags r bs ns (Done (record { 0 = to }) n)
+  module _ {bs ns : List ℕ} {to seen : ℕ} {os : List Opened} (w : ClosingAll bs ns to os seen) (hb : m.end.0 ≤ length bs) (hn : m.end.0 ≤ length ns) (fit : to ≤ m.end.0) where
+    pub all_end : os ≡ [] → (n : ℕ) → n ≡ max seen (to - m.base.0) → ClosesAll m bs₀ ns₀ os₀ r bs ns (Some (record { end = record { 0 = to }; need = n }))
     all_end z n en P now qs e_p f st =
-        subst (λ (k : ℕ). Leaves k m.end.0 (take m.end.0 (cells bs ns)) (finish caption now qs) (max r.seen (finish_need caption now qs)) (Done (record { 0 = to }) n)) e_p
+        subst (λ (k : ℕ). Leaves k m.end.0 (take m.end.0 (cells bs ns)) (finish caption now qs) (max r.seen (finish_need caption now qs)) (Some (record { end = record { 0 = to }; need = n }))) e_p
         (closing_end caption m.text.0 m.end.0 P (w.each P now qs e_p f st) (area-length bs ns m.end.0 hb hn) fit z n (rw e_p en))
 
-    module _ {bs' ns' : List ℕ} {to' : ℕ} (pos : 0 < d) (cl : ClosesLast caption m.text.0 m.base.0 m.end.0 bs ns to starts tags d bs' ns' to') (lb : length bs' ≡ length bs) (ln : length ns' ≡ length ns) where
-      pub all-on : (n : ℕ) → n ≡ max seen (to - m.base.0) → ClosingAll bs' ns' to' (d - 1) n
+    module _ {bs' ns' : List ℕ} {to' : ℕ} {o : Opened} {rest : List Opened} (eo : os ≡ o ∷ rest) (cl : ClosesLast caption m.text.0 m.base.0 m.end.0 bs ns to o bs' ns' to') (lb : length bs' ≡ length bs) (ln : length ns' ≡ length ns) where
+      pub all-on : (n : ℕ) → n ≡ max seen (to - m.base.0) → ClosingAll bs' ns' to' rest n
       all-on n en = record {
         each = λ P now qs e_p f st.
-            rw (en, ← e_p) (closing-on caption m.text.0 m.end.0 P (w.each P now qs e_p f st) (area-length bs ns m.end.0 hb hn) fit (λ z. omega arith) (λ now' q qs' h. cl.each P now' q qs' e_p h)
+            rw (en, ← e_p) (closing-on caption m.text.0 m.end.0 P (w.each P now qs e_p f st) (area-length bs ns m.end.0 hb hn) fit o rest eo (λ now' q qs' h. cl.each P now' q qs' rest e_p h)
             (area-length bs' ns' m.end.0 (omega arith) (omega arith)));
       }
 
-      pub all-full : m.end.0 < to' → ClosesAll m bs₀ ns₀ starts tags r bs' ns' Full
+      pub all-full : m.end.0 < to' → ClosesAll m bs₀ ns₀ os₀ r bs' ns' None
       all-full lt P now qs e_p f st =
           subst (λ (k : ℕ). m.end.0 < k + max r.seen (finish_need caption now qs)) e_p
-          (closing-full caption m.text.0 m.end.0 P (w.each P now qs e_p f st) (area-length bs ns m.end.0 hb hn) fit (λ z. omega arith) (λ now' q qs' h. cl.each P now' q qs' e_p h)
+          (closing-full caption m.text.0 m.end.0 P (w.each P now qs e_p f st) (area-length bs ns m.end.0 hb hn) fit o rest eo (λ now' q qs' h. cl.each P now' q qs' rest e_p h)
           (area-length bs' ns' m.end.0 (omega arith) (omega arith)) lt)
 
-module _ (m : Areas) (bs₀ ns₀ : List ℕ) (he : m.text.0 ≤ m.base.0) (hp : m.base.0 ≤ m.end.0) (hb₀ : m.end.0 ≤ length bs₀) (hn₀ : m.end.0 ≤ length ns₀) where
+module _ (m : Areas) (bs₀ ns₀ : List ℕ) where
   abbrev P₀ : List Cell
   P₀ = take m.base.0 (cells bs₀ ns₀)
 
-  before-length : length P₀ ≡ m.base.0
-  before-length = length-take-le m.base.0 (cells bs₀ ns₀) (cells-le bs₀ ns₀ m.base.0 (omega arith) (omega arith))
-
   -- the run, in slices
-  pub record RunningIn (bs ns : List ℕ) (to : ℕ) (starts tags : List ℕ) (d i seen : ℕ) : Type 0 where
-    pub runs : Running caption m.text.0 m.end.0 P₀ (take m.end.0 (cells bs ns)) to starts tags d i seen
+  pub record RunningIn (bs ns : List ℕ) (to : ℕ) (os : List Opened) (i seen : ℕ) : Type 0 where
+    pub runs : Running caption m.text.0 m.end.0 P₀ (take m.end.0 (cells bs ns)) to os i seen
 
-  pub run-start : (starts tags : List ℕ) → too_deep (take m.text.0 (cells bs₀ ns₀)) ≡ false → RunningIn bs₀ ns₀ m.base.0 starts tags 0 0 0
-  run-start starts tags z =
-      let l = before-length in
-      let a = area-length bs₀ ns₀ m.end.0 hb₀ hn₀ in
-      record {
-        runs = subst (λ (k : ℕ). Running caption m.text.0 m.end.0 P₀ (take m.end.0 (cells bs₀ ns₀)) k starts tags 0 0 0) l
-            (running-start caption m.text.0 m.end.0 P₀ (take m.end.0 (cells bs₀ ns₀)) starts tags (rw l (take-take m.base.0 m.end.0 (cells bs₀ ns₀) hp)) (omega arith) (rw (take-take m.text.0 m.base.0 (cells bs₀ ns₀) he) z) (omega arith));
-      }
+  module _ (he : m.text.0 ≤ m.base.0) (hp : m.base.0 ≤ m.end.0) (hb₀ : m.end.0 ≤ length bs₀) (hn₀ : m.end.0 ≤ length ns₀) where
+    before-length : length P₀ ≡ m.base.0
+    before-length = length-take-le m.base.0 (cells bs₀ ns₀) (cells-le bs₀ ns₀ m.base.0 (omega arith) (omega arith))
 
-  module _ {bs ns : List ℕ} {to : ℕ} {starts tags : List ℕ} {d i seen : ℕ} (w : RunningIn bs ns to starts tags d i seen) (hb : m.end.0 ≤ length bs) (hn : m.end.0 ≤ length ns) (fit : to ≤ m.end.0) where
-    pub run_room : (opener_size (drop i (take m.text.0 bs)) ≡ 0 → ⊥) → d < deep_most
-    run_room n =
+    pub run-start : too_deep (take m.text.0 (cells bs₀ ns₀)) ≡ false → RunningIn bs₀ ns₀ m.base.0 [] 0 0
+    run-start z =
         let l = before-length in
-        running-room caption m.text.0 m.end.0 P₀ w.runs (area-length bs ns m.end.0 hb hn) fit (take m.text.0 bs)
-        (text-bytes caption m.text.0 m.end.0 P₀ bs ns to starts tags d w.runs.state w.runs.stands (omega arith) (omega arith) hb hn fit) refl n
+        let a = area-length bs₀ ns₀ m.end.0 hb₀ hn₀ in
+        record {
+          runs = subst (λ (k : ℕ). Running caption m.text.0 m.end.0 P₀ (take m.end.0 (cells bs₀ ns₀)) k [] 0 0) l
+              (running-start caption m.text.0 m.end.0 P₀ (take m.end.0 (cells bs₀ ns₀)) (rw l (take-take m.base.0 m.end.0 (cells bs₀ ns₀) hp)) (omega arith) (rw (take-take m.text.0 m.base.0 (cells bs₀ ns₀) he) z) (omega arith));
+        }
 
-    pub run_end : m.text.0 ≤ i → Finishing caption m.text.0 m.end.0 P₀ (take m.end.0 (cells bs ns)) to starts tags d seen
-    run_end le =
-        let l = before-length in
-        let k : length (take m.text.0 P₀) ≡ m.text.0 = length-take-le m.text.0 P₀ (omega arith) in
-        running-end caption m.text.0 m.end.0 P₀ w.runs (area-length bs ns m.end.0 hb hn) fit (omega arith)
+    module _ {bs ns : List ℕ} {to : ℕ} {os : List Opened} {i seen : ℕ} (w : RunningIn bs ns to os i seen) (hb : m.end.0 ≤ length bs) (hn : m.end.0 ≤ length ns) (fit : to ≤ m.end.0) where
+      pub run_room : (opener_size (drop i (take m.text.0 bs)) ≡ 0 → ⊥) → length os < deep_most
+      run_room n =
+          let l = before-length in
+          running-room caption m.text.0 m.end.0 P₀ w.runs (area-length bs ns m.end.0 hb hn) fit (take m.text.0 bs)
+          (text-bytes caption m.text.0 m.end.0 P₀ bs ns to os w.runs.state w.runs.stands (omega arith) (omega arith) hb hn fit) refl n
 
-    module _ {bs' ns' : List ℕ} {to' : ℕ} {starts' tags' : List ℕ} {d' i' : ℕ} (t : TakesOne caption m.text.0 m.base.0 m.end.0 bs ns to starts tags d i bs' ns' to' starts' tags' d' i')
-        (lb : length bs' ≡ length bs) (ln : length ns' ≡ length ns) where
-      pub run_on : to' ≤ m.end.0 → (n : ℕ) → n ≡ max seen (to - m.base.0) → RunningIn bs' ns' to' starts' tags' d' i' n
-      run_on le n en =
-          let q : n ≡ max seen (to - length P₀) = en ∙ ap (λ (k : ℕ). max seen (to - k)) (sym before-length) in
-          record {
-            runs = rw q (running-on caption m.text.0 m.end.0 P₀ w.runs (area-length bs ns m.end.0 hb hn) fit (t.each P₀ w.runs.state before-length w.runs.stands)
-                (area-length bs' ns' m.end.0 (omega arith) (omega arith)) le);
-          }
+      pub run_end : m.text.0 ≤ i → Finishing caption m.text.0 m.end.0 P₀ (take m.end.0 (cells bs ns)) to os seen
+      run_end le =
+          let l = before-length in
+          let k : length (take m.text.0 P₀) ≡ m.text.0 = length-take-le m.text.0 P₀ (omega arith) in
+          running-end caption m.text.0 m.end.0 P₀ w.runs (area-length bs ns m.end.0 hb hn) fit (omega arith)
 
-      pub run-full : m.end.0 < to' → m.end.0 < m.base.0 + quotes_need caption (take m.text.0 (cells bs₀ ns₀))
-      run-full lt =
-          let f = running-full caption m.text.0 m.end.0 P₀ w.runs (area-length bs ns m.end.0 hb hn) fit
-          (t.each P₀ w.runs.state before-length w.runs.stands) (area-length bs' ns' m.end.0 (omega arith) (omega arith)) lt in
-          rw (before-length, take-take m.text.0 m.base.0 (cells bs₀ ns₀) he) at f
+      module _ {bs' ns' : List ℕ} {to' : ℕ} {os' : List Opened} {i' : ℕ} (t : TakesOne caption m.text.0 m.base.0 m.end.0 bs ns to os i bs' ns' to' os' i')
+          (lb : length bs' ≡ length bs) (ln : length ns' ≡ length ns) where
+        pub run_on : to' ≤ m.end.0 → (n : ℕ) → n ≡ max seen (to - m.base.0) → RunningIn bs' ns' to' os' i' n
+        run_on le n en =
+            let q : n ≡ max seen (to - length P₀) = en ∙ ap (λ (k : ℕ). max seen (to - k)) (sym before-length) in
+            record {
+              runs = rw q (running-on caption m.text.0 m.end.0 P₀ w.runs (area-length bs ns m.end.0 hb hn) fit (t.each P₀ w.runs.state before-length w.runs.stands)
+                  (area-length bs' ns' m.end.0 (omega arith) (omega arith)) le);
+            }
 
-  text-is : take m.text.0 P₀ ≡ take m.text.0 (cells bs₀ ns₀)
-  text-is = take-take m.text.0 m.base.0 (cells bs₀ ns₀) he
+        pub run-full : m.end.0 < to' → m.end.0 < m.base.0 + quotes_need caption (take m.text.0 (cells bs₀ ns₀))
+        run-full lt =
+            let f = running-full caption m.text.0 m.end.0 P₀ w.runs (area-length bs ns m.end.0 hb hn) fit
+            (t.each P₀ w.runs.state before-length w.runs.stands) (area-length bs' ns' m.end.0 (omega arith) (omega arith)) lt in
+            rw (before-length, take-take m.text.0 m.base.0 (cells bs₀ ns₀) he) at f
 
-  module _ {v : List Cell} {starts tags : List ℕ} {to d seen : ℕ} (f : Finishing caption m.text.0 m.end.0 P₀ v to starts tags d seen) where
-    pub seen-short : m.base.0 + seen ≤ m.end.0
-    seen-short = let l = before-length in let s = f.short in omega (arith, l, s)
+    text-is : take m.text.0 P₀ ≡ take m.text.0 (cells bs₀ ns₀)
+    text-is = take-take m.text.0 m.base.0 (cells bs₀ ns₀) he
 
-    pub pass-done : (v' : List Cell) (a : Passed) → Leaves m.base.0 m.end.0 v' (finish caption f.now f.opened) (max seen (finish_need caption f.now f.opened)) a
-        → Leaves m.base.0 m.end.0 v' (quotes caption (take m.text.0 (cells bs₀ ns₀))) (quotes_need caption (take m.text.0 (cells bs₀ ns₀))) a
-    pass-done v' a l = rw (← text-is, f.same, f.need) l
+    module _ {v : List Cell} {os : List Opened} {to seen : ℕ} (f : Finishing caption m.text.0 m.end.0 P₀ v to os seen) where
+      pub seen-short : m.base.0 + seen ≤ m.end.0
+      seen-short = let l = before-length in let s = f.short in omega (arith, l, s)
+
+      pub pass-done : (v' : List Cell) (a : Option Passed) → Leaves m.base.0 m.end.0 v' (finish caption f.now f.opened) (max seen (finish_need caption f.now f.opened)) a
+          → Leaves m.base.0 m.end.0 v' (quotes caption (take m.text.0 (cells bs₀ ns₀))) (quotes_need caption (take m.text.0 (cells bs₀ ns₀))) a
+      pass-done v' a l = rw (← text-is, f.same, f.need) l

@@ -3,7 +3,7 @@
 --   Lent m ..             how long the lent slices are, for the areas m
 --   Content m begin to    where a content may stand
 --   Built ..              a block stands in its area, and the contents are as they were
---   Stood .. qs           where the content of each open quote begins, and where its opener stands in the text
+--   Stood .. os qs        where the content of each open quote begins, and where its opener stands in the text
 --   Stands .. s           the area holds what the state s of the machine has
 --   Closes ..             the last content of an area has been replaced by another text; ClosesIn: of a pair of slices; ClosesQuote: by a quote's block
 --   ClosesLast            the innermost open quote has been closed; ClosesInner: in a pair of slices, whose text stays
@@ -15,18 +15,18 @@
 --   ClosesAll             all open quotes have been closed, as far as they fit
 --   RunsAll               all tokens have been taken, as far as they fit; Finishing: what is open behind them
 -- Assumes nothing.
-use Rattle.std.specs.Prelude.{◌≡◌, ℕ, ◌+◌, ◌-◌, ◌*◌, ◌≤◌, ◌<◌, max, List, [], ◌∷◌, ◌++◌, length, take, drop, get_or}
+use Rattle.std.specs.Prelude.{◌≡◌, ℕ, ◌+◌, ◌-◌, ◌*◌, ◌≤◌, ◌<◌, max, List, [], ◌∷◌, ◌++◌, length, take, drop, Option, Some, None}
 use Rattle.text.specs.Bounds.{deep_most, number_most}
 use Rattle.text.specs.Cells.{Cell, cells, bytes, part}
 use Rattle.text.specs.Writes.{Holds, Appends}
 use Rattle.attribution_parts.specs.Attribution.{caption}
 use Rattle.quote_tags.specs.Tags.{NextBracket, opener_size, attribution_of}
 use Rattle.quote_blocks.specs.Quotes.{Token, text, tokens, Quote, State, opening, close, step, finish, finish_need, quotes, quotes_need, quote_block}
+use Rattle.quote_steps.specs.declared.stack.Opened.{Opened}
 use Rattle.quote_steps.specs.declared.close.Areas.{Areas}
-use Rattle.quote_steps.specs.declared.pass.Open.{Open}
+use Rattle.quote_steps.specs.declared.pass.Taken.{Taken}
 use Rattle.quote_steps.specs.declared.pass.Reached.{Reached}
 use Rattle.quote_steps.specs.declared.pass.Passed.{Passed}
-use Rattle.quote_steps.specs.declared.pass.Passed.TheVariants.{Done, Full}
 
 -- a block's area is as long as the contents may get, and behind it there is room for as many bytes again; places fit in work numbers, four times over
 abbrev pub LentWithin : (base end top : ℕ) (work numbers : List ℕ) → Type 0
@@ -53,17 +53,18 @@ abbrev pub Built : (m : Areas) (bs ns : List ℕ) (tag begin to : ℕ) (bs' ns' 
 Built m bs ns tag begin to bs' ns' r = BuiltIn bs ns m.end.0 m.top.0 bs' ns' r (block_of m.text.0 bs tag (part begin to (cells bs ns)))
 
 -- s: the text's bytes
-unfoldable pub Stood : (s : List ℕ) (base : ℕ) (starts tags : List ℕ) → List Quote → Type 0
-Stood s base starts tags [] = Unit
-Stood s base starts tags (q ∷ qs) =
-    (get_or starts (length qs) 0 ≡ base + length (opening (q ∷ qs)))
-    × ((get_or tags (length qs) 0 ≤ length s) × (q.attribution ≡ attribution_of (drop (get_or tags (length qs) 0) s)))
-    × Stood s base starts tags qs
+unfoldable pub Stood : (s : List ℕ) (base : ℕ) → List Opened → List Quote → Type 0
+Stood s base [] [] = Unit
+Stood s base (o ∷ os) (q ∷ qs) =
+    (o.start.0 ≡ base + length (opening (q ∷ qs)))
+    × ((o.tag.0 ≤ length s) × (q.attribution ≡ attribution_of (drop o.tag.0 s)))
+    × Stood s base os qs
+Stood s base [] (q ∷ qs) = ⊥
+Stood s base (o ∷ os) [] = ⊥
 
-pub record Stands (e : ℕ) (P v : List Cell) (to : ℕ) (starts tags : List ℕ) (depth : ℕ) (s : State) : Type 0 where
+pub record Stands (e : ℕ) (P v : List Cell) (to : ℕ) (os : List Opened) (s : State) : Type 0 where
   pub text : Holds v to (P ++ (opening s.opened ++ s.now))
-  pub deep : depth ≡ length s.opened
-  pub stood : Stood (bytes (take e P)) (length P) starts tags s.opened
+  pub stood : Stood (bytes (take e P)) (length P) os s.opened
 
 -- from v, where it stands from `start` up to `to`, to v'; `block` gives the other text
 pub record Closes (v : List Cell) (start to : ℕ) (v' : List Cell) (to' : ℕ) (block : List Cell → List Cell) : Type 0 where
@@ -86,71 +87,65 @@ more s [] = s
 more s (c ∷ x) = more (record { now = s.now ++ c ∷ []; opened = s.opened }) x
 
 -- from place i to place i' of the text
-pub record Takes (caption : List ℕ → List ℕ) (e : ℕ) (P v : List Cell) (to : ℕ) (starts tags : List ℕ) (depth i : ℕ)
-    (v' : List Cell) (to' : ℕ) (starts' tags' : List ℕ) (depth' i' : ℕ) (s : State) : Type 0 where
+pub record Takes (caption : List ℕ → List ℕ) (e : ℕ) (P v : List Cell) (to : ℕ) (os : List Opened) (i : ℕ) (v' : List Cell) (to' : ℕ) (os' : List Opened) (i' : ℕ) (s : State) : Type 0 where
   pub token : Token
   pub behind : List Cell
   pub reads : tokens 0 (drop i (take e P)) ≡ token ∷ texts behind (tokens 0 (drop i' (take e P)))
-  pub stands : Stands e P v' to' starts' tags' depth' (more (step caption token s) behind)
+  pub stands : Stands e P v' to' os' (more (step caption token s) behind)
 
 -- in the area of a pair of slices, from whatever may be open
-pub record TakesOne (caption : List ℕ → List ℕ) (e base end : ℕ) (bs ns : List ℕ) (to : ℕ) (starts tags : List ℕ) (depth i : ℕ)
-    (bs' ns' : List ℕ) (to' : ℕ) (starts' tags' : List ℕ) (depth' i' : ℕ) : Type 0 where
-  pub each : (P : List Cell) (s : State) → length P ≡ base → Stands e P (take end (cells bs ns)) to starts tags depth s
-      → Takes caption e P (take end (cells bs ns)) to starts tags depth i (take end (cells bs' ns')) to' starts' tags' depth' i' s
+pub record TakesOne (caption : List ℕ → List ℕ) (e base end : ℕ) (bs ns : List ℕ) (to : ℕ) (os : List Opened) (i : ℕ) (bs' ns' : List ℕ) (to' : ℕ) (os' : List Opened) (i' : ℕ) : Type 0 where
+  pub each : (P : List Cell) (s : State) → length P ≡ base → Stands e P (take end (cells bs ns)) to os s → Takes caption e P (take end (cells bs ns)) to os i (take end (cells bs' ns')) to' os' i' s
 
--- the innermost open quote has been closed, whatever is open
-pub record ClosesLast (caption : List ℕ → List ℕ) (e base end : ℕ) (bs ns : List ℕ) (to : ℕ) (starts tags : List ℕ) (depth : ℕ) (bs' ns' : List ℕ) (to' : ℕ) : Type 0 where
-  pub each : (P now : List Cell) (q : Quote) (qs : List Quote) → length P ≡ base → Stands e P (take end (cells bs ns)) to starts tags depth (record { now = now; opened = q ∷ qs })
-      → Stands e P (take end (cells bs' ns')) to' starts tags (depth - 1) (record { now = close caption q now; opened = qs })
+-- the innermost open quote o has been closed, whatever else is open
+pub record ClosesLast (caption : List ℕ → List ℕ) (e base end : ℕ) (bs ns : List ℕ) (to : ℕ) (o : Opened) (bs' ns' : List ℕ) (to' : ℕ) : Type 0 where
+  pub each : (P now : List Cell) (q : Quote) (qs : List Quote) (os : List Opened) → length P ≡ base → Stands e P (take end (cells bs ns)) to (o ∷ os) (record { now = now; opened = q ∷ qs })
+      → Stands e P (take end (cells bs' ns')) to' os (record { now = close caption q now; opened = qs })
 
-pub record ClosesInner (m : Areas) (bs ns starts tags : List ℕ) (depth to : ℕ) (bs' ns' : List ℕ) (to' : ℕ) : Type 0 where
+pub record ClosesInner (m : Areas) (bs ns : List ℕ) (o : Opened) (to : ℕ) (bs' ns' : List ℕ) (to' : ℕ) : Type 0 where
   pub place : m.base.0 ≤ to'
   pub text : take m.text.0 bs' ≡ take m.text.0 bs
-  pub closes : ClosesLast caption m.text.0 m.base.0 m.end.0 bs ns to starts tags depth bs' ns' to'
+  pub closes : ClosesLast caption m.text.0 m.base.0 m.end.0 bs ns to o bs' ns' to'
 
-pub record Ready (m : Areas) (bs ns starts tags : List ℕ) (o : Open) : Type 0 where
+pub record Ready (m : Areas) (bs ns : List ℕ) (os : List Opened) (t : Taken) : Type 0 where
   pub lent : Lent m bs ns
-  pub at : o.at.0 < m.text.0
-  pub to : (m.base.0 ≤ o.to.0) × (o.to.0 ≤ m.end.0)
-  pub tables : (length starts ≡ deep_most) × ((length tags ≡ deep_most) × (o.depth ≤ deep_most))
-  pub bracket : NextBracket (take m.text.0 bs) o.at.0 o.bracket.0
-  pub room : (opener_size (drop o.at.0 (take m.text.0 bs)) ≡ 0 → ⊥) → o.depth < deep_most
+  pub at : t.at.0 < m.text.0
+  pub to : (m.base.0 ≤ t.to.0) × (t.to.0 ≤ m.end.0)
+  pub bracket : NextBracket (take m.text.0 bs) t.at.0 t.bracket.0
+  pub room : (opener_size (drop t.at.0 (take m.text.0 bs)) ≡ 0 → ⊥) → length os < deep_most
 
-pub record TakesToken (m : Areas) (bs ns starts tags : List ℕ) (o : Open) (bs' ns' starts' tags' : List ℕ) (o' : Open) : Type 0 where
-  pub on : (o.at.0 < o'.at.0) × (o'.at.0 ≤ m.text.0)
-  pub place : m.base.0 ≤ o'.to.0
-  pub depth : o'.depth ≤ deep_most
+pub record TakesToken (m : Areas) (bs ns : List ℕ) (os : List Opened) (t : Taken) (bs' ns' : List ℕ) (os' : List Opened) (t' : Taken) : Type 0 where
+  pub on : (t.at.0 < t'.at.0) × (t'.at.0 ≤ m.text.0)
+  pub place : m.base.0 ≤ t'.to.0
   pub text : take m.text.0 bs' ≡ take m.text.0 bs
-  pub bracket : NextBracket (take m.text.0 bs') o'.at.0 o'.bracket.0
-  pub takes : TakesOne caption m.text.0 m.base.0 m.end.0 bs ns o.to.0 starts tags o.depth o.at.0 bs' ns' o'.to.0 starts' tags' o'.depth o'.at.0
+  pub bracket : NextBracket (take m.text.0 bs') t'.at.0 t'.bracket.0
+  pub takes : TakesOne caption m.text.0 m.base.0 m.end.0 bs ns t.to.0 os t.at.0 bs' ns' t'.to.0 os' t'.at.0
 
 -- v holds the text `result` from `base` on, in the room up to `end`
-abbrev pub Leaves : (base end : ℕ) (v result : List Cell) (need : ℕ) → Passed → Type 0
-Leaves base end v result need (Done to n) = ((base + need ≤ end) × (n ≡ need)) × ((to.0 ≡ base + length result) × (part base to.0 v ≡ result))
-Leaves base end v result need Full = end < base + need
+abbrev pub Leaves : (base end : ℕ) (v result : List Cell) (need : ℕ) → Option Passed → Type 0
+Leaves base end v result need (Some p) = ((base + need ≤ end) × (p.need ≡ need)) × ((p.end.0 ≡ base + length result) × (part base p.end.0 v ≡ result))
+Leaves base end v result need None = end < base + need
 
-abbrev pub PassedIn : (m : Areas) (bs ns bs' ns' : List ℕ) → Passed → Type 0
+abbrev pub PassedIn : (m : Areas) (bs ns bs' ns' : List ℕ) → Option Passed → Type 0
 PassedIn m bs ns bs' ns' =
     Leaves m.base.0 m.end.0 (take m.end.0 (cells bs' ns')) (quotes caption (take m.text.0 (cells bs ns))) (quotes_need caption (take m.text.0 (cells bs ns)))
 
 -- whatever is open at r
-abbrev pub ClosesAll : (m : Areas) (bs ns starts tags : List ℕ) (r : Reached) (bs' ns' : List ℕ) → Passed → Type 0
-ClosesAll m bs ns starts tags r bs' ns' answer =
-    (P now : List Cell) (qs : List Quote) → length P ≡ m.base.0 → m.base.0 + r.seen ≤ m.end.0 → Stands m.text.0 P (take m.end.0 (cells bs ns)) r.to.0 starts tags r.depth (record { now = now; opened = qs })
+abbrev pub ClosesAll : (m : Areas) (bs ns : List ℕ) (os : List Opened) (r : Reached) (bs' ns' : List ℕ) → Option Passed → Type 0
+ClosesAll m bs ns os r bs' ns' answer =
+    (P now : List Cell) (qs : List Quote) → length P ≡ m.base.0 → m.base.0 + r.seen ≤ m.end.0 → Stands m.text.0 P (take m.end.0 (cells bs ns)) r.to.0 os (record { now = now; opened = qs })
     → Leaves m.base.0 m.end.0 (take m.end.0 (cells bs' ns')) (finish caption now qs) (max r.seen (finish_need caption now qs)) answer
 
 -- what is open is left to be closed
-pub record Finishing (caption : List ℕ → List ℕ) (e end : ℕ) (P v : List Cell) (to : ℕ) (starts tags : List ℕ) (depth seen : ℕ) : Type 0 where
+pub record Finishing (caption : List ℕ → List ℕ) (e end : ℕ) (P v : List Cell) (to : ℕ) (os : List Opened) (seen : ℕ) : Type 0 where
   pub now : List Cell
   pub opened : List Quote
-  pub stands : Stands e P v to starts tags depth (record { now = now; opened = opened })
+  pub stands : Stands e P v to os (record { now = now; opened = opened })
   pub same : quotes caption (take e P) ≡ finish caption now opened
   pub need : quotes_need caption (take e P) ≡ max seen (finish_need caption now opened)
   pub short : length P + seen ≤ end
 
-pub record RunsAll (m : Areas) (bs ns bs' ns' starts tags : List ℕ) (r : Reached) : Type 0 where
-  pub place : m.base.0 ≤ r.to.0
-  pub depth : r.depth ≤ deep_most
-  pub done : r.to.0 ≤ m.end.0 → Finishing caption m.text.0 m.end.0 (take m.base.0 (cells bs ns)) (take m.end.0 (cells bs' ns')) r.to.0 starts tags r.depth r.seen
-  pub full : m.end.0 < r.to.0 → m.end.0 < m.base.0 + quotes_need caption (take m.text.0 (cells bs ns))
+abbrev pub RunsAll : (m : Areas) (bs ns bs' ns' : List ℕ) (os : List Opened) → Option Reached → Type 0
+RunsAll m bs ns bs' ns' os (Some r) =
+    ((m.base.0 ≤ r.to.0) × (r.to.0 ≤ m.end.0)) × Finishing caption m.text.0 m.end.0 (take m.base.0 (cells bs ns)) (take m.end.0 (cells bs' ns')) r.to.0 os r.seen
+RunsAll m bs ns bs' ns' os None = m.end.0 < m.base.0 + quotes_need caption (take m.text.0 (cells bs ns))

@@ -1,12 +1,13 @@
 // Closing a quote: its block takes the place of its content. The block is built in an area of its own behind the contents, with the joined texts of the
 // attribution behind that, and copied back.
-ghost use Rattle.std.specs.Prelude.{◌≡◌, ◌-◌, ◌≤◌, ◌<◌, length, take, drop, get_or};
+ghost use Rattle.std.specs.Prelude.{◌≡◌, ◌-◌, ◌≤◌, length, take, drop};
 ghost use Rattle.text.specs.Cells.{cells, part};
 ghost use Rattle.attribution_parts.specs.Attribution.{caption};
 ghost use Rattle.quote_tags.specs.Tags.{attribution_of};
 ghost use Rattle.quote_blocks.specs.Quotes.{quote_block};
 ghost use Rattle.quote_steps.specs.Passes.{Lent, Content, Built, ClosesQuote, ClosesInner};
 
+use crate::stack::Opened;
 use attribution::caption::Words;
 use attribution_losses::join::join_texts;
 use quote_blocks::block::quote_block;
@@ -48,86 +49,35 @@ fn attribution_of(s: &[u8], tag: PostAt) -> Extent
     }
 }
 
-// Builds the block of the quote whose opener stands at `tag`, with the content from `begin` up to `to`. Joined texts that do not fit make
-// no caption that does.
-fn build_block(
-    work: &mut [u8],
-    numbers: &mut [u32],
-    m: Areas,
-    tag: PostAt,
-    begin: WorkAt,
-    to: WorkAt,
-) -> WorkAt
-    requires { Lent m work.old numbers.old × ((tag.0 ≤ m.text.0) × Content m begin.0 to.0) }
-    ensures { Built m work.old numbers.old tag.0 begin.0 to.0 work.new numbers.new result.0 }
+// Builds the block of a quote, whose content ends at `to`. Joined texts that do not fit make no caption that does.
+fn build_block(work: &mut [u8], numbers: &mut [u32], m: Areas, quote: Opened, to: WorkAt) -> WorkAt
+    requires { Lent m work.old numbers.old × ((quote.tag.0 ≤ m.text.0) × Content m quote.start.0 to.0) }
+    ensures { Built m work.old numbers.old quote.tag.0 quote.start.0 to.0 work.new numbers.new result.0 }
 {
-    let size = m.text.0;
-    let end = m.end.0;
-    let top = m.top.0;
-    let words = attribution_of(&work[..size], tag);
-    let from = words.from;
-    let last = words.to;
-    let a = from.0;
-    let b = last.0;
-    let j = join_texts(work, a, b, top);
-    if work.len() < j {
+    let name = attribution_of(&work[..m.text.0], quote.tag);
+    let past = join_texts(work, name.from.0, name.to.0, m.top.0);
+    if work.len() < past {
         return WorkAt(FULL);
     }
-    let spoken = Words {
-        from: WorkAt(a),
-        to: WorkAt(b),
-        joined: WorkAt(top),
-        past: WorkAt(j),
+    let words = Words {
+        from: WorkAt(name.from.0),
+        to: WorkAt(name.to.0),
+        joined: m.top,
+        past: WorkAt(past),
     };
-    quote_block(work, numbers, begin, to, spoken, top, WorkAt(end))
+    quote_block(work, numbers, quote.start, to, words, m.top.0, m.end)
 }
 
-// Replaces the content from `begin` up to `to` by the block of the quote whose opener stands at `tag`.
-fn close_quote(
-    work: &mut [u8],
-    numbers: &mut [u32],
-    m: Areas,
-    tag: PostAt,
-    begin: WorkAt,
-    to: WorkAt,
-) -> WorkAt
-    requires { Lent m work.old numbers.old × ((tag.0 ≤ m.text.0) × Content m begin.0 to.0) }
-    ensures { (begin.0 ≤ result.0) × ClosesQuote m work.old numbers.old tag.0 begin.0 to.0 work.new numbers.new result.0 }
+// Replaces the content of a quote, which ends at `to`, by the quote's block.
+fn close_quote(work: &mut [u8], numbers: &mut [u32], m: Areas, quote: Opened, to: WorkAt) -> WorkAt
+    requires { Lent m work.old numbers.old × ((quote.tag.0 ≤ m.text.0) × Content m quote.start.0 to.0) }
+    ensures { (quote.start.0 ≤ result.0) × ClosesQuote m work.old numbers.old quote.tag.0 quote.start.0 to.0 work.new numbers.new result.0 }
 {
-    let end = m.end.0;
-    let n = build_block(work, numbers, m, tag, begin, to);
+    let n = build_block(work, numbers, m, quote, to);
     if m.top.0 < n.0 {
         return WorkAt(FULL);
     }
-    copy_back(work, numbers, WorkAt(end), n, end, begin)
-}
-
-// The start at an index, from base up to `to`.
-fn start_of(starts: &[u32], d: usize, base: WorkAt, to: WorkAt) -> WorkAt
-    requires { (base.0 ≤ to.0) × (d < length starts.now) }
-    ensures { ((base.0 ≤ result.0) × (result.0 ≤ to.0)) × (base.0 ≤ get_or starts.now d 0 → get_or starts.now d 0 ≤ to.0 → result.0 ≡ get_or starts.now d 0) }
-{
-    let s = starts[d] as usize;
-    let t = to.0;
-    if s < base.0 {
-        return base;
-    }
-    if t < s {
-        return to;
-    }
-    WorkAt(s)
-}
-
-// The place of an opener at an index, up to e.
-fn tag_of(tags: &[u32], d: usize, e: usize) -> PostAt
-    requires { d < length tags.now }
-    ensures { (result.0 ≤ e) × (get_or tags.now d 0 ≤ e → result.0 ≡ get_or tags.now d 0) }
-{
-    let t = tags[d] as usize;
-    if e < t {
-        return PostAt(e);
-    }
-    PostAt(t)
+    copy_back(work, numbers, m.end, n, m.end.0, quote.start)
 }
 
 // Closes the innermost open quote.
@@ -135,15 +85,15 @@ pub fn close_innermost(
     work: &mut [u8],
     numbers: &mut [u32],
     m: Areas,
-    starts: &[u32],
-    tags: &[u32],
-    open: usize,
+    quote: Opened,
     to: WorkAt,
 ) -> WorkAt
-    requires { (Lent m work.old numbers.old × ((m.base.0 ≤ to.0) × (to.0 ≤ m.end.0))) × ((0 < «open») × ((«open» ≤ length starts.now) × («open» ≤ length tags.now))) }
-    ensures { ClosesInner m work.old numbers.old starts.now tags.now «open» to.0 work.new numbers.new result.0 }
+    requires { Lent m work.old numbers.old × ((m.base.0 ≤ to.0) × (to.0 ≤ m.end.0)) }
+    ensures { ClosesInner m work.old numbers.old quote to.0 work.new numbers.new result.0 }
 {
-    let begin = start_of(starts, open - 1, m.base, to);
-    let tag = tag_of(tags, open - 1, m.text.0);
-    close_quote(work, numbers, m, tag, begin, to)
+    let within = Opened {
+        start: WorkAt(quote.start.0.clamp(m.base.0, to.0)),
+        tag: PostAt(quote.tag.0.min(m.text.0)),
+    };
+    close_quote(work, numbers, m, within, to)
 }

@@ -3,3 +3,4 @@
 
 pub mod close;
 pub mod pass;
+pub mod stack;

@@ -1,39 +1,36 @@
 // The pass in work memory, over cells that are handed to it. Where a content would go past its area, the need exceeds the room.
-ghost use Rattle.std.specs.Prelude.{◌≡◌, false, ◌≤◌, length, take};
-ghost use Rattle.text.specs.Bounds.{deep_most};
+ghost use Rattle.std.specs.Prelude.{◌≡◌, false, [], ◌≤◌, take};
 ghost use Rattle.text.specs.Cells.{cells};
 ghost use Rattle.quote_blocks.specs.Quotes.{too_deep};
 ghost use Rattle.quote_steps.specs.Passes.{Lent, Ready, TakesToken, RunsAll, ClosesAll, PassedIn};
 
 use crate::close::{Areas, close_innermost};
+use crate::stack::{Opened, Stack};
 use quote_tags::tag::{Kind, next_tag, tag_at};
 use text::area::copy_within;
-use text::bounds::DEEP_MOST;
 use text::scan::next_bracket;
-use text::{PostAt, WorkAt, greater, in_work};
+use text::{PostAt, WorkAt};
 
-// What is open behind a place of the text: the next `]`, where the contents end, and how many quotes.
+// How much of the text is taken: up to which place, where the next `]` stands, and where the contents end.
 #[derive(Clone, Copy)]
-pub struct Open {
+pub struct Taken {
     pub at: PostAt,
     pub bracket: PostAt,
     pub to: WorkAt,
-    pub depth: usize,
 }
 
-// What is open behind all of the text: where the contents end, how many quotes, and how many cells the contents had at most before.
+// What is reached behind all of the text: where the contents end, and how many cells they had at most before.
 #[derive(Clone, Copy)]
 pub struct Reached {
     pub to: WorkAt,
-    pub depth: usize,
     pub seen: usize,
 }
 
-// Where the text ends that the pass writes, and its need; or the need exceeds the room.
+// Where the text ends that the pass writes, and its need.
 #[derive(Clone, Copy)]
-pub enum Passed {
-    Done(WorkAt, usize),
-    Full,
+pub struct Passed {
+    pub end: WorkAt,
+    pub need: usize,
 }
 
 // Takes one token of the text, a text with all up to the next place where a quote tag may begin.
@@ -41,137 +38,106 @@ fn take_token(
     work: &mut [u8],
     numbers: &mut [u32],
     m: Areas,
-    starts: &mut [u32],
-    tags: &mut [u32],
-    from: Open,
-) -> Open
-    requires { Ready m work.old numbers.old starts.old tags.old from }
-    ensures { TakesToken m work.old numbers.old starts.old tags.old from work.new numbers.new starts.new tags.new result }
+    opened: &mut Stack,
+    from: Taken,
+) -> Taken
+    requires { Ready m work.old numbers.old opened.old from }
+    ensures { TakesToken m work.old numbers.old opened.old from work.new numbers.new opened.new result }
 {
-    let size = m.text.0;
-    let at = from.at;
-    let to = from.to;
-    let depth = from.depth;
-    let i = at.0;
-    let tag = tag_at(&work[..size], at, from.bracket);
+    let tag = tag_at(&work[..m.text.0], from.at, from.bracket);
     let bracket = tag.bracket;
     match tag.kind {
         Kind::Opener(k) => {
-            starts[depth] = to.0 as u32;
-            tags[depth] = i as u32;
-            Open {
-                at: PostAt(i + k),
+            opened.push(Opened {
+                start: from.to,
+                tag: from.at,
+            });
+            Taken {
+                at: PostAt(from.at.0 + k),
                 bracket,
-                to,
-                depth: depth + 1,
+                ..from
             }
         }
-        Kind::Closer(stray) if depth == 0 => Open {
-            at: PostAt(i + stray),
-            bracket,
-            to,
-            depth,
-        },
-        Kind::Closer(k) => Open {
-            at: PostAt(i + k),
-            bracket,
-            to: close_innermost(work, numbers, m, starts, tags, depth, to),
-            depth: depth - 1,
-        },
+        Kind::Closer(k) => {
+            let at = PostAt(from.at.0 + k);
+            let Some(quote) = opened.pop() else {
+                return Taken {
+                    at,
+                    bracket,
+                    ..from
+                };
+            };
+            let to = close_innermost(work, numbers, m, quote, from.to);
+            Taken { at, bracket, to }
+        }
         Kind::Plain => {
-            let next = next_tag(&work[..size], PostAt(i + 1));
-            let a = in_work(WorkAt(0), at);
-            let e = in_work(WorkAt(0), next);
-            let r = copy_within(work, numbers, a, e, m.end.0, to);
-            Open {
-                at: next,
-                bracket,
-                to: r,
-                depth,
-            }
+            let at = next_tag(&work[..m.text.0], PostAt(from.at.0 + 1));
+            let first = WorkAt(from.at.0);
+            let to = copy_within(work, numbers, first, WorkAt(at.0), m.end.0, from.to);
+            Taken { at, bracket, to }
         }
     }
 }
 
-// Takes all tokens of the text, or as many as fit.
+// Takes all tokens of the text, if they fit.
 fn take_tokens(
     work: &mut [u8],
     numbers: &mut [u32],
     m: Areas,
-    starts: &mut [u32],
-    tags: &mut [u32],
-) -> Reached
-    requires { (Lent m work.old numbers.old × ((length starts.old ≡ deep_most) × (length tags.old ≡ deep_most))) × (too_deep (take m.text.0 (cells work.old numbers.old)) ≡ false) }
-    ensures { RunsAll m work.old numbers.old work.new numbers.new starts.new tags.new result }
+    opened: &mut Stack,
+) -> Option<Reached>
+    requires { (Lent m work.old numbers.old × (opened.old ≡ [])) × (too_deep (take m.text.0 (cells work.old numbers.old)) ≡ false) }
+    ensures { RunsAll m work.old numbers.old work.new numbers.new opened.new result }
 {
-    let size = m.text.0;
-    let base = m.base.0;
-    let end = m.end.0;
-    let mut st = Open {
+    let mut taken = Taken {
         at: PostAt(0),
-        bracket: next_bracket(&work[..size], PostAt(0)),
-        to: WorkAt(base),
-        depth: 0,
+        bracket: next_bracket(&work[..m.text.0], PostAt(0)),
+        to: m.base,
     };
     let mut seen: usize = 0;
-    let mut i: usize = 0;
-    while i < size {
-        let before = st.to;
-        seen = greater(seen, before.0 - base);
-        st = take_token(work, numbers, m, starts, tags, st);
-        let to = st.to;
-        let t = to.0;
-        let depth = st.depth;
-        if end < t {
-            return Reached { to, depth, seen };
+    // A while: a token's length is the step.
+    while taken.at.0 < m.text.0 {
+        seen = seen.max(taken.to.0 - m.base.0);
+        taken = take_token(work, numbers, m, opened, taken);
+        if m.end.0 < taken.to.0 {
+            return None;
         }
-        let at = st.at;
-        i = at.0;
     }
-    let to = st.to;
-    let depth = st.depth;
-    Reached { to, depth, seen }
+    Some(Reached { to: taken.to, seen })
 }
 
-// Closes what is open, innermost first, as far as it fits.
+// Closes what is open, innermost first, if it fits.
 fn close_open(
     work: &mut [u8],
     numbers: &mut [u32],
     m: Areas,
-    starts: &[u32],
-    tags: &[u32],
+    opened: &mut Stack,
     from: Reached,
-) -> Passed
-    requires { (Lent m work.old numbers.old × ((m.base.0 ≤ from.to.0) × (from.to.0 ≤ m.end.0))) × ((from.depth ≤ length starts.now) × (from.depth ≤ length tags.now)) }
-    ensures { ClosesAll m work.old numbers.old starts.now tags.now from work.new numbers.new result }
+) -> Option<Passed>
+    requires { Lent m work.old numbers.old × ((m.base.0 ≤ from.to.0) × (from.to.0 ≤ m.end.0)) }
+    ensures { ClosesAll m work.old numbers.old opened.old from work.new numbers.new result }
 {
-    let base = m.base.0;
-    let end = m.end.0;
-    let mut to = from.to.0;
-    let mut open = from.depth;
-    let mut seen = from.seen;
-    while 0 < open {
-        seen = greater(seen, to - base);
-        let r = close_innermost(work, numbers, m, starts, tags, open, WorkAt(to));
-        to = r.0;
-        if end < to {
-            return Passed::Full;
+    let mut to = from.to;
+    let mut need = from.seen;
+    while let Some(quote) = opened.pop() {
+        need = need.max(to.0 - m.base.0);
+        to = close_innermost(work, numbers, m, quote, to);
+        if m.end.0 < to.0 {
+            return None;
         }
-        open -= 1;
     }
-    Passed::Done(WorkAt(to), greater(seen, to - base))
+    Some(Passed {
+        end: to,
+        need: need.max(to.0 - m.base.0),
+    })
 }
 
-// The whole pass: what it writes stands from base on.
-pub fn quote_pass(work: &mut [u8], numbers: &mut [u32], m: Areas) -> Passed
+// The whole pass: what it writes stands from base on. None where its need exceeds the room.
+pub fn quote_pass(work: &mut [u8], numbers: &mut [u32], m: Areas) -> Option<Passed>
     requires { Lent m work.old numbers.old × (too_deep (take m.text.0 (cells work.old numbers.old)) ≡ false) }
     ensures { PassedIn m work.old numbers.old work.new numbers.new result }
 {
-    let mut starts: [u32; DEEP_MOST] = [0; DEEP_MOST];
-    let mut tags: [u32; DEEP_MOST] = [0; DEEP_MOST];
-    let st = take_tokens(work, numbers, m, &mut starts, &mut tags);
-    if m.end.0 < st.to.0 {
-        return Passed::Full;
-    }
-    close_open(work, numbers, m, &starts, &tags, st)
+    let mut opened = Stack::new();
+    let reached = take_tokens(work, numbers, m, &mut opened)?;
+    close_open(work, numbers, m, &mut opened, reached)
 }

@@ -1,5 +1,4 @@
 use native.Mathlib.Omega.{arith}
-use mathlib.Core.Path.{sym}
 use Prim.Native.Nat.{◌≤◌}
 use lib.ListN.{length}
 use Rattle.quote_steps.proofs.Joining.{joined_is, block-joined, area-unjoined}
@@ -8,59 +7,39 @@ use Rattle.attribution.proofs.Speaking.{spoken-there}
 use lib.Seq.{length-take-le}
 use Rattle.quote_steps.proofs.close.build_block.Goals as goal
 
-pub slice_bounds-attribution_of-end-2 : goal.slice_bounds-attribution_of-end-2
-slice_bounds-attribution_of-end-2 c = let x = c.args in
+pub returns-then-work-past : goal.returns-then-work-past
+returns-then-work-past c = let x = c.args in
     let p = c.requires in
     let l = length-take-le x.m.text.0 x.work.now (omega (arith, p.0)) in
-    sym l
-
-pub attribution_of-words-requires : goal.attribution_of-words-requires
-attribution_of-words-requires c = let x = c.args in
-    let p = c.requires in
-    let l = length-take-le x.m.text.0 x.work.now (omega (arith, p.0)) in
-    omega (arith, l, p.1.0)
-
-pub join_texts-j-requires : goal.join_texts-j-requires
-join_texts-j-requires c = let x = c.args in
-    let p = c.requires in
-    let l = length-take-le x.m.text.0 x.work.now (omega (arith, p.0)) in
-    let E = c.attribution_of-words.ensures in
-    let hb : c.attribution_of-words.result.to.0 ≤ x.m.text.0 = omega (arith, l, E.0.1) in
-    ((E.0.0, (omega (arith, hb, p.0), omega (arith, hb, p.0))), omega (arith, hb, E.0.0, p.0))
-
-pub returns-then-work-j : goal.returns-then-work-j
-returns-then-work-j c = let x = c.args in
-    let p = c.requires in
-    let l = length-take-le x.m.text.0 x.work.now (omega (arith, p.0)) in
-    let E = c.attribution_of-words.ensures in
-    let hb : c.attribution_of-words.result.to.0 ≤ x.m.text.0 = omega (arith, l, E.0.1) in
-    let J = c.join_texts-j.ensures in
+    let E = c.attribution_of-name.ensures in
+    let hb : c.attribution_of-name.result.to.0 ≤ x.m.text.0 = omega (arith, l, E.0.1) in
+    let J = c.join_texts-past.ensures in
     let he : x.m.text.0 ≤ x.m.top.0 = omega (arith, p.0) in
     let hv : x.m.top.0 ≤ length x.work.now = omega (arith, p.0) in
-    built-full J.keeps p.0.1.1.1.0 (area-unjoined x.work.now x.m.text.0 x.m.top.0 x.tag.0 _ _ E.0.0 hb he hv E.1 J _ x.numbers.now x.m.end.0 18446744073709551615 (omega (arith, J.size, c.if-work-j.true)) p.0.1.0.0 p.0.1.0.1 p.0.1.1.1.0 (omega (arith, p.0.1.1.1.1)))
+    built-full J.keeps p.0.1.1.1.0 (area-unjoined x.work.now x.m.text.0 x.m.top.0 x.quote.tag.0 _ _ E.0.0 hb he hv E.1 J _ x.numbers.now x.m.end.0 18446744073709551615 (omega (arith, J.size, c.if-work-past.true)) p.0.1.0.0 p.0.1.0.1 p.0.1.1.1.0 (omega (arith, p.0.1.1.1.1)))
 
 pub quote_block-requires : goal.quote_block-requires
 quote_block-requires c = let x = c.args in
     let p = c.requires in
     let l = length-take-le x.m.text.0 x.work.now (omega (arith, p.0)) in
-    let E = c.attribution_of-words.ensures in
-    let hb : c.attribution_of-words.result.to.0 ≤ x.m.text.0 = omega (arith, l, E.0.1) in
-    let J = c.join_texts-j.ensures in
+    let E = c.attribution_of-name.ensures in
+    let hb : c.attribution_of-name.result.to.0 ≤ x.m.text.0 = omega (arith, l, E.0.1) in
+    let J = c.join_texts-past.ensures in
     let he : x.m.text.0 ≤ x.m.top.0 = omega (arith, p.0) in
     let hv : x.m.top.0 ≤ length x.work.now = omega (arith, p.0) in
-    let k : c.join_texts-j.result ≤ length x.work.now = omega (arith, J.size, c.if-work-j.false) in (
+    let k : c.join_texts-past.result ≤ length x.work.now = omega (arith, J.size, c.if-work-past.false) in (
       ((p.1.1.1.0, p.1.1.1.1), omega (arith, p.1.1.1.1, p.0)),
-      (spoken-there _ _ _ E.0.0 (omega (arith, hb, p.0)) p.0.1.1.1.0 (omega (arith, J.end)) (omega (arith, k, J.size)) (joined_is x.work.now x.m.text.0 x.m.top.0 x.tag.0 _ _ E.0.0 hb he hv E.1 J k), (omega (arith, J.size, hv), p.0.1.0.1)),
+      (spoken-there _ _ _ E.0.0 (omega (arith, hb, p.0)) p.0.1.1.1.0 (omega (arith, J.end)) (omega (arith, k, J.size)) (joined_is x.work.now x.m.text.0 x.m.top.0 x.quote.tag.0 _ _ E.0.0 hb he hv E.1 J k), (omega (arith, J.size, hv), p.0.1.0.1)),
     )
 
 pub returns : goal.returns
 returns c = let x = c.args in
     let p = c.requires in
     let l = length-take-le x.m.text.0 x.work.now (omega (arith, p.0)) in
-    let E = c.attribution_of-words.ensures in
-    let hb : c.attribution_of-words.result.to.0 ≤ x.m.text.0 = omega (arith, l, E.0.1) in
-    let J = c.join_texts-j.ensures in
+    let E = c.attribution_of-name.ensures in
+    let hb : c.attribution_of-name.result.to.0 ≤ x.m.text.0 = omega (arith, l, E.0.1) in
+    let J = c.join_texts-past.ensures in
     let he : x.m.text.0 ≤ x.m.top.0 = omega (arith, p.0) in
     let hv : x.m.top.0 ≤ length x.work.now = omega (arith, p.0) in
     let q = c.quote_block.ensures in
-    built-behind J.keeps p.0.1.1.1.0 q (block-joined x.work.now x.m.text.0 x.m.top.0 x.tag.0 _ _ E.0.0 hb he hv E.1 J x.numbers.now x.begin.0 x.to.0 (omega (arith, p.1.1.1.1, p.0)) q.appends)
+    built-behind J.keeps p.0.1.1.1.0 q (block-joined x.work.now x.m.text.0 x.m.top.0 x.quote.tag.0 _ _ E.0.0 hb he hv E.1 J x.numbers.now x.quote.start.0 x.to.0 (omega (arith, p.1.1.1.1, p.0)) q.appends)
