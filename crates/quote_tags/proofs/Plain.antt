@@ -110,13 +110,13 @@ pub first-here : (s : List ℕ) (i : ℕ) → get_or (drop i s) 0 0 ≡ get_or s
 first-here s i = rw (get_or-drop i s 0 0, add-zero)
 
 module _ (s : List ℕ) (i : ℕ) where
-  pub not-bracket : (get_or s i 0 ≡ 91 → ⊥) → NoTag (drop i s)
+  not-bracket : (get_or s i 0 ≡ 91 → ⊥) → NoTag (drop i s)
   not-bracket n =
       let f = small-other _ 91 (omega arith) (λ z. n (sym (first-here s i) ∙ z)) in
       plain (drop i s) (byte-other 0 _ _ (omega arith) f) (byte-other 0 _ _ (omega arith) f)
 
   -- the bytes that a function compared
-  pub not-tag : {b c : ℕ} → b ≡ get_or s (i + 1) 0 → c ≡ get_or s (i + 2) 0 → ((eqb b 113 || eqb b 81) || (eqb b 47 && (eqb c 113 || eqb c 81))) ≡ false → NoTag (drop i s)
+  not-tag : {b c : ℕ} → b ≡ get_or s (i + 1) 0 → c ≡ get_or s (i + 2) 0 → ((eqb b 113 || eqb b 81) || (eqb b 47 && (eqb c 113 || eqb c 81))) ≡ false → NoTag (drop i s)
   not-tag {b} {c} eb ec h =
       let r = neither (eqb b 113 || eqb b 81) (eqb b 47 && (eqb c 113 || eqb c 81)) h in
       plain (drop i s) (byte-other 1 _ _ (omega arith) (λ z. letter-other b 81 r.0 (second z))) (by (eqb b 47) refl r.1)
@@ -127,6 +127,13 @@ module _ (s : List ℕ) (i : ℕ) where
       by : (t : Bool) → eqb b 47 ≡ t → (t && (eqb c 113 || eqb c 81)) ≡ false → begins (ascii "[/quote]") (drop i s) ≡ false
       by false p q = byte-other 1 _ _ (omega arith) (λ z. small-other b 47 (omega arith) (eqb-false b 47 p) (second z))
       by true p q = byte-other 2 _ _ (omega arith) (λ z. letter-other c 81 q (ap small (ec ∙ sym (get_or-drop i s 2 0)) ∙ z))
+
+  pub not-begun : {b c : ℕ} → b ≡ get_or s (i + 1) 0 → c ≡ get_or s (i + 2) 0 → (eqb (get_or s i 0) 91 && ((eqb b 113 || eqb b 81) || (eqb b 47 && (eqb c 113 || eqb c 81)))) ≡ false → NoTag (drop i s)
+  not-begun {b} {c} eb ec h = by (eqb (get_or s i 0) 91) refl h
+    where
+      by : (t : Bool) → eqb (get_or s i 0) 91 ≡ t → (t && ((eqb b 113 || eqb b 81) || (eqb b 47 && (eqb c 113 || eqb c 81)))) ≡ false → NoTag (drop i s)
+      by false p q = not-bracket (eqb-false (get_or s i 0) 91 p)
+      by true p q = not-tag eb ec q
 
   no-q : NoQ (get_or s (i + 1) 0) → NoQ (get_or s (i + 2) 0) → NoTag (drop i s)
   no-q p q =

@@ -36,16 +36,10 @@ pub fn opens_quote(s: &[u8], at: PostAt) -> bool
     requires { at.0 ≤ length s.now }
     ensures { result ≡ begins_any openers (drop at.0 s.now) }
 {
-    let i = at.0;
-    let second = small_of(byte_at(s, i + 1));
-    if second != b'q' {
-        return false;
-    }
-    if begins_at(s, at, b"[quote") {
-        let b = byte_at(s, i + 6);
-        return (b == b']') | (b == b'=') | (b == b' ');
-    }
-    false
+    let b = byte_at(s, at.0 + 6);
+    small_of(byte_at(s, at.0 + 1)) == b'q'
+        && begins_at(s, at, b"[quote")
+        && ((b == b']') | (b == b'=') | (b == b' '))
 }
 
 // Whether a quote tag may begin at i: with `[q`, or `[/q`.
@@ -53,27 +47,20 @@ fn may_begin(s: &[u8], i: usize) -> bool
     requires { i < length s.now }
     ensures { result ≡ false → NoTag (drop i s.now) }
 {
-    if s[i] != b'[' {
-        return false;
-    }
     let b = byte_at(s, i + 1);
     let c = byte_at(s, i + 2);
-    (b == b'q') | (b == b'Q') | ((b == b'/') & ((c == b'q') | (c == b'Q')))
+    (s[i] == b'[') & ((b == b'q') | (b == b'Q') | ((b == b'/') & ((c == b'q') | (c == b'Q'))))
 }
 
-// The first place from `at` up to e where a quote tag may begin, or e; from one `[` to the next.
+// The first place from `at` up to e where a quote tag may begin, or e. A while: it goes from one `[` to the next.
 fn tag_before(s: &[u8], at: usize, e: usize) -> usize
     requires { (at ≤ e) × (e ≤ length s.now) }
     ensures { ((at ≤ result) × (result ≤ e)) × ((j : ℕ) → at ≤ j → j < result → NoTag (drop j s.now)) }
 {
     let mut i = at;
     while i < e {
-        let next = next_byte(&s[..e], PostAt(i), b'[');
-        let k = next.0;
-        if e <= k {
-            return k;
-        }
-        if may_begin(s, k) {
+        let k = next_byte(&s[..e], PostAt(i), b'[').0;
+        if e <= k || may_begin(s, k) {
             return k;
         }
         i = k + 1;
@@ -87,25 +74,19 @@ fn q_in_16(s: &[u8], i: usize) -> bool
     ensures { result ≡ false → (j : ℕ) → i ≤ j → j < i + 16 → NoQ (get_or s.now j 0) }
 {
     let mut stands = false;
-    let mut k: usize = 0;
-    while k < 16 {
-        let b = s[i + k];
-        stands = stands | ((b == b'q') | (b == b'Q'));
-        k += 1;
+    for k in i..i + 16 {
+        stands |= (s[k] == b'q') | (s[k] == b'Q');
     }
     stands
 }
 
-// The place of a block of 16 with a q, or of the rest that is shorter: no q stands between.
+// The place of a block of 16 with a q, or of the rest that is shorter: no q stands between. A while: no range's step may leave a rest.
 fn past_16s(s: &[u8], at: usize) -> usize
     requires { at ≤ length s.now }
     ensures { ((at ≤ result) × (result ≤ length s.now)) × ((j : ℕ) → at ≤ j → j < result → NoQ (get_or s.now j 0)) }
 {
     let mut i = at;
-    while 16 <= s.len() - i {
-        if q_in_16(s, i) {
-            return i;
-        }
+    while 16 <= s.len() - i && !q_in_16(s, i) {
         i += 16;
     }
     i
@@ -116,10 +97,7 @@ fn block_end(s: &[u8], j: usize) -> usize
     requires { j ≤ length s.now }
     ensures { ((j ≤ result) × (result ≤ length s.now)) × (j < length s.now → j < result) }
 {
-    if 16 <= s.len() - j {
-        return j + 16;
-    }
-    s.len()
+    j + 16.min(s.len() - j)
 }
 
 // Two places before j, but not before i.
@@ -127,14 +105,11 @@ fn two_back(i: usize, j: usize) -> usize
     requires { i ≤ j }
     ensures { ((i ≤ result) × (result ≤ j)) × (i < result → result + 2 ≤ j) }
 {
-    if j - i < 2 {
-        return i;
-    }
-    j - 2
+    i.max(j.saturating_sub(2))
 }
 
 // The first place from a place on where a quote tag may begin, or the end. A tag's q is its second byte or its third, and a q is rare: so
-// a `[` is looked for only from two places before a block with a q on.
+// a `[` is looked for only from two places before a block with a q on. A while: it goes from one block with a q to the next.
 pub fn next_tag(s: &[u8], at: PostAt) -> PostAt
     requires { at.0 ≤ length s.now }
     ensures { ((at.0 ≤ result.0) × (result.0 ≤ length s.now)) × ((j : ℕ) → at.0 ≤ j → j < result.0 → NoTag (drop j s.now)) }

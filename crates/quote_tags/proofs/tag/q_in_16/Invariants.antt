@@ -1,5 +1,4 @@
 use mathlib.Core.Path.{◌≡◌}
-use Prim.Native.Nat.{◌+◌, ◌-◌, ◌≤◌}
 use lib.ListN.{get_or}
 use mathlib.Core.Bool.{false}
 use Rattle.quote_tags.specs.Tags.{NoQ}
@@ -7,7 +6,4 @@ use Rattle.quote_tags.proofs.Places.{Between}
 use Rattle.quote_tags.proofs.tag.q_in_16.Given as goal
 
 abbrev pub invariant-loop-k : goal.invariant-loop-k
-invariant-loop-k l = (l.k ≤ 16) × (l.stands ≡ false → Between (λ j. NoQ (get_or l.s j 0)) l.i (l.i + l.k))
-
-abbrev pub decreases-loop-k : goal.decreases-loop-k
-decreases-loop-k l = 16 - l.k
+invariant-loop-k l = l.stands ≡ false → Between (λ j. NoQ (get_or l.s j 0)) l.i l.k
