@@ -6,7 +6,8 @@ use native.Mathlib.Omega.{arith}
 use native.Mathlib.Numerals.{add-one}
 use mathlib.Core.List.{List, [], ◌∷◌, ◌++◌, append_assoc, append-nil}
 use lib.ListN.{length, take, drop, get_or, set, length-set, length-drop}
-use lib.Seq.{take-add, take-suc, take-suc-set, take-set-le, drop-set-lt, drop-drop, get_or-drop, length-take-le}
+use lib.Seq.{take-add, take-suc, take-suc-set, take-set-le, drop-set-lt, drop-drop, get_or-drop, length-take-le, paste}
+use Rattle.std.proofs.lemmas.List.Edits.{take-paste, drop-paste}
 use Rattle.quote_tags.specs.Masks.{Mask, region, blanked, each, masked, Rewritten}
 use Rattle.quote_tags.proofs.Tagging.{part-before}
 use Rattle.quote_tags.proofs.Plain.{bracket-past}
@@ -31,13 +32,25 @@ one_written buf t c zero l h = rw (add-zero, append-nil (take t buf)) (take-set-
 one_written buf t c (suc zero) l h = rw (add-one t) (take-suc-set buf t c l)
 one_written buf t c (suc (suc k)) l h = absurd (omega arith)
 
-pub moved_none : (xs : List ℕ) (a e : ℕ) {to : ℕ} → to ≡ a → a ≤ e → Rewritten (λ b. b ∷ []) xs a e to xs e
-moved_none xs a e {to} q h =
-    let x : a + (e - a) ≡ e = omega arith in
+-- bytes that are copied to a place before them
+pub moved-within : (xs : List ℕ) (a e to : ℕ) → to ≤ a → a ≤ e → e ≤ length xs → Rewritten (λ b. b ∷ []) xs a e to (paste xs to (drop a xs) (e - a)) (to + (e - a))
+moved-within xs a e to h g l =
+    let d = length-drop a xs in
+    let x : to + (e - a) + (e - (to + (e - a))) ≡ e = omega arith in
+    let p : drop (to + (e - a)) (paste xs to (drop a xs) (e - a)) ≡ drop (to + (e - a)) xs = drop-paste xs to (drop a xs) (e - a) (omega arith) (omega (arith, d)) in
     record {
       short = omega arith;
-      text = ap (λ (j : ℕ). take j xs) (sym x) ∙ take-add a (e - a) xs ∙ ap (λ (j : ℕ). take j xs ++ take (e - a) (drop a xs)) (sym q)
-          ∙ ap (λ (y : List ℕ). take to xs ++ y) (sym (each_same (take (e - a) (drop a xs))));
+      text = take-paste xs to (drop a xs) (e - a) (omega arith) (omega (arith, d)) ∙ ap (λ (y : List ℕ). take to xs ++ y) (sym (each_same (take (e - a) (drop a xs))));
+      rest = ap (λ (j : ℕ). drop j (paste xs to (drop a xs) (e - a))) (sym x) ∙ sym (drop-drop (e - (to + (e - a))) (to + (e - a)) (paste xs to (drop a xs) (e - a)))
+          ∙ ap (drop (e - (to + (e - a)))) p ∙ drop-drop (e - (to + (e - a))) (to + (e - a)) xs ∙ ap (λ (j : ℕ). drop j xs) x;
+    }
+
+-- and where they stand already
+pub moved_none : (xs : List ℕ) (a e to : ℕ) → to ≡ a → a ≤ e → Rewritten (λ b. b ∷ []) xs a e to xs (to + (e - a))
+moved_none xs a e to q h =
+    record {
+      short = omega arith;
+      text = take-add to (e - a) xs ∙ ap (λ (j : ℕ). take to xs ++ take (e - a) (drop j xs)) q ∙ ap (λ (y : List ℕ). take to xs ++ y) (sym (each_same (take (e - a) (drop a xs))));
       rest = refl;
     }
 

@@ -14,10 +14,7 @@ fn begins_either(s: &[u8], at: PostAt, first: &[u8], second: &[u8]) -> bool
     requires { at.0 ≤ length s.now }
     ensures { result ≡ begins_any (first.now ∷ second.now ∷ []) (drop at.0 s.now) }
 {
-    if begins_at(s, at, first) {
-        return true;
-    }
-    begins_at(s, at, second)
+    begins_at(s, at, first) || begins_at(s, at, second)
 }
 
 // The place of the first closer from a place on, or the end.
@@ -25,14 +22,12 @@ fn next_closer(s: &[u8], at: PostAt, first: &[u8], second: &[u8]) -> PostAt
     requires { at.0 ≤ length s.now }
     ensures { result.0 ≡ at.0 + to_closer (first.now ∷ second.now ∷ []) (drop at.0 s.now) }
 {
-    let mut i = at.0;
-    while i < s.len() {
+    for i in at.0..s.len() {
         if begins_either(s, PostAt(i), first, second) {
             return PostAt(i);
         }
-        i += 1;
     }
-    PostAt(i)
+    PostAt(s.len())
 }
 
 // The size of an opener or a closer at a place, one of two words and anything up to `]`, if one is there.
@@ -72,19 +67,13 @@ fn closer_from(
     requires { ((low ≤ at.0) × (at.0 ≤ length s.now)) × KnownCloser (first.now ∷ second.now ∷ []) s.now low known.from.0 known.at.0 }
     ensures { (result.at.0 ≡ at.0 + to_closer (first.now ∷ second.now ∷ []) (drop at.0 s.now)) × KnownCloser (first.now ∷ second.now ∷ []) s.now low result.from.0 result.at.0 }
 {
-    let i = at.0;
-    let from = known.from;
-    let closer = known.at;
-    let f = from.0;
-    let q = closer.0;
-    if f <= i {
-        if i <= q {
-            return Closer { from, at: closer };
+    if known.from.0 <= at.0 && at.0 <= known.at.0 {
+        known
+    } else {
+        Closer {
+            from: at,
+            at: next_closer(s, at, first, second),
         }
-    }
-    Closer {
-        from: at,
-        at: next_closer(s, at, first, second),
     }
 }
 
@@ -137,20 +126,14 @@ fn region_at(
 fn blank_for(b: u8) -> u8
     ensures { result ≡ cond (is "\n" b) 10 32 }
 {
-    if b == b'\n' {
-        return 10;
-    }
-    32
+    if b == b'\n' { b } else { b' ' }
 }
 
 // How many characters begin with a byte: one or none.
 fn characters_by(b: u8) -> usize
     ensures { result ≡ cond (inside 0x80 0xBF b) 0 1 }
 {
-    if is_inside(0x80, 0xbf, b) {
-        return 0;
-    }
-    1
+    usize::from(!is_inside(0x80, 0xbf, b))
 }
 
 // Whether a word that opens a mask may begin with these bytes: `[c`, `[n`, or `[i` and no `]`. (Of 16 places at once a machine tells `]` from
@@ -164,33 +147,39 @@ fn may_open(a: u8, b: u8, c: u8) -> bool
     (a == b'[') & (by_c | by_n | by_i)
 }
 
-// Whether a word that opens a mask may begin among the 16 bytes from i on: a few comparisons of all 16 where the machine has them.
-fn mask_in_16(s: &[u8], i: usize) -> bool
-    requires { i + 18 ≤ length s.now }
-    ensures { result ≡ false → (j : ℕ) → i ≤ j → j < i + 16 → NoMask (drop j s.now) }
+// Whether a closure takes three bytes one behind another from one of the N places from i on. It is asked at each of them, so that a machine can
+// compare many at once.
+fn taken_among<const N: usize, P: Fn(u8, u8, u8) -> bool>(s: &[u8], i: usize, takes: &P) -> bool
+    requires inside { i + N + 2 ≤ length s.now }
+    requires callable { P.IsAlwaysCallable takes.now }
+    ensures { result ≡ false → (j : ℕ) → i ≤ j → j < i + N → P.post takes.now (get_or s.now j 0) (get_or s.now (j + 1) 0) (get_or s.now (j + 2) 0) false }
 {
-    let mut stands = false;
-    let mut k: usize = 0;
-    while k < 16 {
-        stands = stands | may_open(s[i + k], s[i + k + 1], s[i + k + 2]);
-        k += 1;
+    let mut taken = false;
+    for k in i..i + N {
+        taken |= takes(s[k], s[k + 1], s[k + 2]);
     }
-    stands
+    taken
 }
 
-// The place from which on to look for a mask one by one: none begins between.
-fn past_16s(s: &[u8], at: usize) -> usize
-    requires { at ≤ length s.now }
-    ensures { ((at ≤ result) × (result ≤ length s.now)) × ((j : ℕ) → at ≤ j → j < result → NoMask (drop j s.now)) }
+// The first place from a place on where a closure takes the three bytes from there on, 0 behind the end, or the end. So long as there are, N
+// places are passed over together. A while: the last block may not be whole.
+fn first_taken<const N: usize, P: Fn(u8, u8, u8) -> bool>(s: &[u8], at: PostAt, takes: P) -> PostAt
+    requires inside { at.0 ≤ length s.now }
+    requires block { (0 < N) × (N ≤ 64) }
+    requires callable { P.IsAlwaysCallable takes }
+    ensures inside { (at.0 ≤ result.0) × (result.0 ≤ length s.now) }
+    ensures before { (j : ℕ) → at.0 ≤ j → j < result.0 → P.post takes (get_or s.now j 0) (get_or s.now (j + 1) 0) (get_or s.now (j + 2) 0) false }
 {
-    let mut i = at;
-    while 18 <= s.len() - i {
-        if mask_in_16(s, i) {
-            return i;
-        }
-        i += 16;
+    let mut i = at.0;
+    while N + 2 <= s.len() - i && !taken_among::<N, P>(s, i, &takes) {
+        i += N;
     }
-    i
+    for k in i..s.len() {
+        if takes(s[k], byte_at(s, k + 1), byte_at(s, k + 2)) {
+            return PostAt(k);
+        }
+    }
+    PostAt(s.len())
 }
 
 // The first place from a place on where a mask may begin, or the end.
@@ -198,14 +187,7 @@ fn next_mask(s: &[u8], at: PostAt) -> PostAt
     requires { at.0 ≤ length s.now }
     ensures { ((at.0 ≤ result.0) × (result.0 ≤ length s.now)) × ((j : ℕ) → at.0 ≤ j → j < result.0 → NoMask (drop j s.now)) }
 {
-    let mut i = past_16s(s, at.0);
-    while i < s.len() {
-        if may_open(s[i], byte_at(s, i + 1), byte_at(s, i + 2)) {
-            return PostAt(i);
-        }
-        i += 1;
-    }
-    PostAt(i)
+    first_taken::<16, _>(s, at, may_open)
 }
 
 // Whether a word that opens one of the masks may begin with these bytes: `[`, then its letter as second or as third byte, in either case. (No
@@ -216,48 +198,12 @@ fn may_open_by(a: u8, b: u8, c: u8, letter2: u8, letter3: u8) -> bool
     (a == b'[') & ((b | 0x20 == letter2) | (c | 0x20 == letter3))
 }
 
-// Whether a word by these letters may begin among the 32 bytes from i on.
-fn opener_in_32(s: &[u8], i: usize, letter2: u8, letter3: u8) -> bool
-    requires { i + 34 ≤ length s.now }
-    ensures { result ≡ false → (j : ℕ) → i ≤ j → j < i + 32 → NoOpener letter2 letter3 (drop j s.now) }
-{
-    let mut stands = false;
-    let mut k: usize = 0;
-    while k < 32 {
-        stands = stands | may_open_by(s[i + k], s[i + k + 1], s[i + k + 2], letter2, letter3);
-        k += 1;
-    }
-    stands
-}
-
-// The place from which on to look for a word by these letters one by one: none begins between.
-fn past_32s(s: &[u8], at: usize, letter2: u8, letter3: u8) -> usize
-    requires { at ≤ length s.now }
-    ensures { ((at ≤ result) × (result ≤ length s.now)) × ((j : ℕ) → at ≤ j → j < result → NoOpener letter2 letter3 (drop j s.now)) }
-{
-    let mut i = at;
-    while 34 <= s.len() - i {
-        if opener_in_32(s, i, letter2, letter3) {
-            return i;
-        }
-        i += 32;
-    }
-    i
-}
-
 // The first place from a place on where a word by these letters may begin, or the end.
 pub fn next_opener(s: &[u8], at: PostAt, letter2: u8, letter3: u8) -> PostAt
     requires { at.0 ≤ length s.now }
     ensures { ((at.0 ≤ result.0) × (result.0 ≤ length s.now)) × ((j : ℕ) → at.0 ≤ j → j < result.0 → NoOpener letter2 letter3 (drop j s.now)) }
 {
-    let mut i = past_32s(s, at.0, letter2, letter3);
-    while i < s.len() {
-        if may_open_by(s[i], byte_at(s, i + 1), byte_at(s, i + 2), letter2, letter3) {
-            return PostAt(i);
-        }
-        i += 1;
-    }
-    PostAt(i)
+    first_taken::<32, _>(s, at, |a, b, c| may_open_by(a, b, c, letter2, letter3))
 }
 
 // Moves the bytes from a up to e down to a place before them, and returns the place behind them.
@@ -265,17 +211,10 @@ fn move_down(buf: &mut [u8], a: usize, e: usize, to: usize) -> usize
     requires { (to ≤ a) × ((a ≤ e) × (e ≤ length buf.old)) }
     ensures { Rewritten (λ b. b ∷ []) buf.old a e to buf.new result }
 {
-    if to == a {
-        return e;
+    if to < a {
+        buf.copy_within(a..e, to);
     }
-    let mut i = a;
-    let mut t = to;
-    while i < e {
-        buf[t] = buf[i];
-        t += 1;
-        i += 1;
-    }
-    t
+    to + (e - a)
 }
 
 // Writes a blank for each character from a up to e, from a place before them on, and returns the place behind the blanks. (What is written for a
@@ -284,13 +223,11 @@ fn blank_out(buf: &mut [u8], a: usize, e: usize, to: usize) -> usize
     requires { (to ≤ a) × ((a ≤ e) × (e ≤ length buf.old)) }
     ensures { Rewritten blanked buf.old a e to buf.new result }
 {
-    let mut i = a;
     let mut t = to;
-    while i < e {
+    for i in a..e {
         let b = buf[i];
         buf[t] = blank_for(b);
         t += characters_by(b);
-        i += 1;
     }
     t
 }
@@ -374,38 +311,24 @@ fn opens_mask(s: &[u8], at: PostAt) -> bool
     requires { at.0 < length s.now }
     ensures { result ≡ false → NoMask (drop at.0 s.now) }
 {
-    let i = at.0;
-    let second = small_of(byte_at(s, i + 1));
-    if second == b'c' {
-        if begins_at(s, at, b"[code") {
-            return true;
-        }
-        return begins_at(s, at, b"[c]");
+    match small_of(byte_at(s, at.0 + 1)) {
+        b'c' => begins_at(s, at, b"[code") || begins_at(s, at, b"[c]"),
+        b'i' => begins_at(s, at, b"[icode]"),
+        b'n' => begins_at(s, at, b"[noparse]"),
+        _ => false,
     }
-    if second == b'i' {
-        return begins_at(s, at, b"[icode]");
-    }
-    if second == b'n' {
-        return begins_at(s, at, b"[noparse]");
-    }
-    false
 }
 
 // Whether a word that opens a mask stands anywhere.
 fn has_mask(s: &[u8]) -> bool
     ensures { result ≡ false → visible s.now ≡ s.now }
 {
-    let mut i: usize = 0;
-    while i < s.len() {
-        let next = next_mask(s, PostAt(i));
-        i = next.0;
-        if s.len() <= i {
-            return false;
-        }
+    let mut next = next_mask(s, PostAt(0));
+    while next.0 < s.len() {
         if opens_mask(s, next) {
             return true;
         }
-        i += 1;
+        next = next_mask(s, PostAt(next.0 + 1));
     }
     false
 }
@@ -416,7 +339,8 @@ pub fn mask_all(buf: &mut [u8], n: usize) -> usize
     ensures { (result ≤ n) × (take result buf.new ≡ visible (take n buf.old)) }
 {
     if has_mask(&buf[..n]) {
-        return mask_each(buf, n);
+        mask_each(buf, n)
+    } else {
+        n
     }
-    n
 }

@@ -1,10 +1,6 @@
-use Prim.Native.Nat.{◌-◌}
 use Rattle.quote_tags.specs.Masks.{blanked}
 use Rattle.quote_tags.proofs.Moving.{Moving}
 use Rattle.quote_tags.proofs.mask.blank_out.Given as goal
 
 abbrev pub invariant-loop-i : goal.invariant-loop-i
 invariant-loop-i l = Moving blanked l.initial.buf l.a l.e l.to l.buf l.i l.t
-
-abbrev pub decreases-loop-i : goal.decreases-loop-i
-decreases-loop-i l = l.e - l.i

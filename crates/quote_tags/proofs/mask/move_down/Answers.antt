@@ -1,28 +1,12 @@
 use native.Mathlib.Omega.{arith}
-use mathlib.Core.Path.{refl}
-use Rattle.quote_tags.proofs.Moving.{moved_none, moving, moving-on, moving-end}
+use Rattle.quote_tags.proofs.Moving.{moved_none, moved-within}
 use Rattle.quote_tags.proofs.mask.move_down.Goals as goal
-
-pub returns-then-to-a : goal.returns-then-to-a
-returns-then-to-a c = moved_none _ _ _ c.if-to-a.true c.requires.1.0
-
-pub loop-i-init : goal.loop-i-init
-loop-i-init c = moving _ _ _ _ _ c.requires.1.0
-
-pub bounds-buf-i : goal.bounds-buf-i
-bounds-buf-i c = let l = c.loop-i in omega (arith, l.invariant.same, c.requires.1.1, c.loop-i-test.true)
-
-pub bounds-buf-t : goal.bounds-buf-t
-bounds-buf-t c = let l = c.loop-i in omega (arith, l.invariant.same, l.invariant.done.short, l.invariant.order, c.requires.0, c.requires.1.1, c.loop-i-test.true)
-
-pub overflow_add-t : goal.overflow_add-t
-overflow_add-t c = let l = c.loop-i in omega (arith, l.invariant.done.short, l.invariant.order, c.requires.0, c.requires.1.1, c.loop-i-test.true)
-
-pub loop-i-preserved : goal.loop-i-preserved
-loop-i-preserved c = let l = c.loop-i in moving-on l.invariant c.requires.0 c.requires.1.1 c.loop-i-test.true 1 _ (omega arith, refl)
-
-pub shape_of-buf : goal.shape_of-buf
-shape_of-buf c = c.loop-i.invariant.same
+use Rattle.quote_tags.proofs.mask.move_down.Goals.{then-to-a, else-to-a}
 
 pub returns : goal.returns
-returns c = let l = c.loop-i in moving-end l.invariant c.requires.0 c.requires.1.1 (omega arith)
+returns c = let x = c.args in
+    let p = c.requires in
+    elim c.if-to-a.branch [
+      | then-to-a w ↦ rw (w.buf-is, w.copy_within.ensures.after) (moved-within x.buf.now x.a x.e x.to p.0 p.1.0 p.1.1)
+      | else-to-a w ↦ rw w.buf-is (moved_none x.buf.now x.a x.e x.to (omega (arith, w.if-to-a.false, p.0)) p.1.0)
+    ]

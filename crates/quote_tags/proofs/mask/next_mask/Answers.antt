@@ -1,27 +1,8 @@
 use mathlib.Core.Path.{refl}
-use Rattle.quote_tags.specs.Masks.{NoMask}
-use Rattle.quote_tags.proofs.Places.{run_none, run-then, run_on}
-use Rattle.quote_tags.proofs.Unmasking.{not-open-at}
+use lib.ListN.{drop}
+use lib.Seq.{get_or-drop}
+use Rattle.quote_tags.proofs.Plain.{first-here}
 use Rattle.quote_tags.proofs.mask.next_mask.Goals as goal
 
-pub loop-i-init : goal.loop-i-init
-loop-i-init c = let a = c.args in let p = c.past_16s-i in run_none NoMask a.s.now p.result p.ensures.0.1
-
-pub returns-then-may_open : goal.returns-then-may_open
-returns-then-may_open c = let l = c.loop-i in
-    let a = c.args in
-    let p = c.past_16s-i in
-    run-then NoMask a.s.now a.at.0 p.result p.ensures l.i l.invariant
-
-pub loop-i-preserved : goal.loop-i-preserved
-loop-i-preserved c = let l = c.loop-i in
-    let a = c.args in
-    let p = c.past_16s-i in
-    run_on NoMask a.s.now p.result l.i l.invariant c.loop-i-test.true
-    (not-open-at NoMask a.s.now c.may_open.ensures l.i refl c.byte_at.ensures c.byte_at-in-loop-i.ensures c.if-may_open.false)
-
 pub returns : goal.returns
-returns c = let l = c.loop-i in
-    let a = c.args in
-    let p = c.past_16s-i in
-    run-then NoMask a.s.now a.at.0 p.result p.ensures l.i l.invariant
+returns c = let s = c.args.s.now in let f = c.first_taken.ensures in (f.inside, λ j h g. f.before j h g refl (drop j s) (first-here s j) (get_or-drop j s 1 0) (get_or-drop j s 2 0))

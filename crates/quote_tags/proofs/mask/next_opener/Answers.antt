@@ -1,27 +1,18 @@
-use mathlib.Core.Path.{refl}
+use mathlib.Core.Path.{◌≡◌}
+use borrow.Author.Rules.{rules}
+use Prim.Native.Nat.{ℕ, ◌+◌}
+use mathlib.Core.List.{List}
+use lib.ListN.{drop, get_or}
+use lib.Seq.{get_or-drop}
 use Rattle.quote_tags.specs.Masks.{NoOpener}
-use Rattle.quote_tags.proofs.Places.{run_none, run-then, run_on}
-use Rattle.quote_tags.proofs.Unmasking.{not-open-at}
+use Rattle.quote_tags.proofs.Plain.{first-here}
 use Rattle.quote_tags.proofs.mask.next_opener.Goals as goal
 
-pub loop-i-init : goal.loop-i-init
-loop-i-init c = let a = c.args in let p = c.past_32s-i in run_none (NoOpener a.letter2 a.letter3) a.s.now p.result p.ensures.0.1
-
-pub returns-then-may_open_by : goal.returns-then-may_open_by
-returns-then-may_open_by c = let l = c.loop-i in
-    let a = c.args in
-    let p = c.past_32s-i in
-    run-then (NoOpener a.letter2 a.letter3) a.s.now a.at.0 p.result p.ensures l.i l.invariant
-
-pub loop-i-preserved : goal.loop-i-preserved
-loop-i-preserved c = let l = c.loop-i in
-    let a = c.args in
-    let p = c.past_32s-i in
-    run_on (NoOpener a.letter2 a.letter3) a.s.now p.result l.i l.invariant c.loop-i-test.true
-    (not-open-at (NoOpener a.letter2 a.letter3) a.s.now c.may_open_by.ensures l.i refl c.byte_at.ensures c.byte_at-in-loop-i.ensures c.if-may_open_by.false)
-
 pub returns : goal.returns
-returns c = let l = c.loop-i in
-    let a = c.args in
-    let p = c.past_32s-i in
-    run-then (NoOpener a.letter2 a.letter3) a.s.now a.at.0 p.result p.ensures l.i l.invariant
+returns c = let s = c.args.s.now in
+    let f = c.first_taken.ensures in (
+      f.inside,
+      λ j h g. let q = f.before j h g in
+          let p : (x : List ℕ) → get_or x 0 0 ≡ get_or s j 0 → get_or x 1 0 ≡ get_or s (j + 1) 0 → get_or x 2 0 ≡ get_or s (j + 2) 0 → NoOpener c.args.letter2 c.args.letter3 x = λ x ea eb ec. search rules in
+          p (drop j s) (first-here s j) (get_or-drop j s 1 0) (get_or-drop j s 2 0),
+    )

@@ -13,4 +13,3 @@ pub loop-i-preserved : goal.loop-i-preserved
 loop-i-preserved c = let r = run-to-bracket c.args.s.now c.loop-i.invariant.1 c.loop-i.invariant.0.1 c.requires.1 c.next_byte-k.ensures in
     let a = c.args in
     ((omega (arith, c.loop-i.invariant.0, r.0), omega (arith, c.if-e-k.false)), between-one (λ j. NoTag (drop j a.s.now)) a.at _ r.1 (c.may_begin.ensures c.if-may_begin.false))
-
