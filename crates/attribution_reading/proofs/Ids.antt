@@ -1,12 +1,12 @@
 -- Laws of the leading id and of the caption's id. Assumes nothing.
 use mathlib.Core.Path.{◌≡◌, refl, sym, ap, ◌∙◌}
-use mathlib.Core.Bool.{true, false, cond}
+use mathlib.Core.Bool.{true, false, cond, not, ◌&&◌}
 use mathlib.Core.List.{List, [], ◌∷◌}
 use Prim.Native.Nat.{ℕ, zero, suc, ◌+◌, ◌-◌, ◌≤◌, ◌<◌}
 use native.Mathlib.Nat.{add-sub_cancel_left}
 use native.Mathlib.Omega.{arith}
 use native.Mathlib.Decide.{dec_le}
-use lib.Dec.{ltb}
+use lib.Dec.{eqb, ltb}
 use lib.ListN.{length, take, drop, get_or, drop_of_length-le}
 use borrow.Author.Tests.{eq-eqb, ne_eqb, lt-ltb, le-ltb}
 use Rattle.text.specs.Ascii.{digits}
@@ -24,32 +24,24 @@ use Rattle.attribution_reading.proofs.Fielding.{length-bytes, part_no_lem, value
 -- ---- the leading id
 
 module _ (s : List ℕ) (p : Place) where
-  pub no-lead-field : (p.keylen ≡ 0 → ⊥) → is_leading (part_of s p) ≡ false
+  pub lead-is : is_leading (part_of s p) ≡ (eqb p.key.size 0 && (not (eqb p.value.from p.key.from) && digits (bytes s p.value.from p.value.size)))
   unfolding part_of
-  no-lead-field n = by p.keylen n
+  lead-is = by p.key.size
     where
-      by : (m : ℕ) → (m ≡ 0 → ⊥) → is_leading (part_with m s p) ≡ false
-      by zero z = absurd (z refl)
-      by (suc m) z = refl
+      by : (n : ℕ) → is_leading (part_with n s p) ≡ (eqb n 0 && (not (eqb p.value.from p.key.from) && digits (bytes s p.value.from p.value.size)))
+      by zero = refl
+      by (suc n) = rw (ne_eqb (suc n) 0 (omega arith))
 
-  pub no-lead-run : p.keylen ≡ 0 → p.from ≡ p.key → is_leading (part_of s p) ≡ false
-  unfolding part_of
-  no-lead-run e f = rw (e, eq-eqb p.from p.key f)
-
-  pub lead-digits : p.keylen ≡ 0 → (p.from ≡ p.key → ⊥) → is_leading (part_of s p) ≡ digits (take (p.from + p.size - p.from) (drop p.from s))
-  unfolding part_of bytes
-  lead-digits e n = rw (e, ne_eqb p.from p.key n, add-sub_cancel_left p.from p.size)
-
-pub lead-none : (s : List ℕ) (at : ℕ) → Stands s 0 at → is_leading (part_no 0 (parts 0 s)) ≡ false → LeadAt s (record { from = 0; size = 0; count = 0; next = at })
+pub lead-none : (s : List ℕ) (at : ℕ) → Stands s 0 at → is_leading (part_no 0 (parts 0 s)) ≡ false → LeadAt s (record { id = record { from = 0; size = 0 }; count = 0; next = at })
 unfolding leading leading_id bytes
 lead-none s at st e = record { words = rw e; inside = omega arith; count = rw e; slow = omega arith; stands = st }
 
 module _ (s : List ℕ) (at : ℕ) (st : Stands s 0 at) where
-  pub lead-end : length s ≤ at → LeadAt s (record { from = 0; size = 0; count = 0; next = at })
+  pub lead-end : length s ≤ at → LeadAt s (record { id = record { from = 0; size = 0 }; count = 0; next = at })
   unfolding parts
   lead-end le = let d : parts 0 s ≡ [] = st.rest ∙ rw (drop_of_length-le s {i = at} le) in lead-none s at st (rw d)
 
-  pub lead-unquoted : at < length s → is_quote (get_or s at 0) ≡ false → LeadAt s (record { from = 0; size = 0; count = 0; next = at })
+  pub lead-unquoted : at < length s → is_quote (get_or s at 0) ≡ false → LeadAt s (record { id = record { from = 0; size = 0 }; count = 0; next = at })
   unfolding part_at
   lead-unquoted lt n =
       let q = part_no_lem 0 (parts 0 s) (part_at (drop at s)) (parts 0 (drop (at + part_size (drop at s)) s)) (st.rest ∙ parts_first s at lt (st.begins lt)) in
@@ -63,10 +55,10 @@ module _ (s : List ℕ) (at : ℕ) (st : Stands s 0 at) where
     first_part : part_no 0 (parts 0 s) ≡ part_of s p
     first_part = part_no_lem 0 (parts 0 s) (part_of s p) (parts 0 (drop p.next s)) (st.rest ∙ sc.part)
 
-    pub lead-other : is_leading (part_of s p) ≡ false → LeadAt s (record { from = 0; size = 0; count = 0; next = at })
+    pub lead-other : is_leading (part_of s p) ≡ false → LeadAt s (record { id = record { from = 0; size = 0 }; count = 0; next = at })
     lead-other e = lead-none s at st (ap is_leading first_part ∙ e)
 
-    pub lead-found : is_leading (part_of s p) ≡ true → LeadAt s (record { from = p.from; size = p.size; count = 1; next = p.next })
+    pub lead-found : is_leading (part_of s p) ≡ true → LeadAt s (record { id = p.value; count = 1; next = p.next })
     unfolding leading leading_id
     lead-found e =
         let f : is_leading (part_no 0 (parts 0 s)) ≡ true = ap is_leading first_part ∙ e in
@@ -95,23 +87,23 @@ module _ (s : List ℕ) (f : Fields) (l : Lead) (fs : FieldsAt s f) (ld : LeadAt
   abbrev other_id : List ℕ
   other_id = or_else (field_of Id (parts 0 s)) (leading_id (parts 0 s))
 
-  by-post : 0 < f.post.size → IdAt s (record { from = f.post.from; size = f.post.size })
+  by-post : 0 < f.post.value.size → IdAt s f.post.value
   unfolding id
-  by-post h = record { words = first_some s f.post.from f.post.size (field_of PostId (parts 0 s)) other_id fs.post.inside fs.post.words h; inside = fs.post.inside }
+  by-post h = record { words = first_some s f.post.value.from f.post.value.size (field_of PostId (parts 0 s)) other_id fs.post.inside fs.post.words h; inside = fs.post.inside }
 
-  module _ (p : f.post.size ≤ 0) where
+  module _ (p : f.post.value.size ≤ 0) where
     no-post : other_id ≡ id (parts 0 s)
     unfolding id
-    no-post = first-none s f.post.from f.post.size (field_of PostId (parts 0 s)) other_id fs.post.words p
+    no-post = first-none s f.post.value.from f.post.value.size (field_of PostId (parts 0 s)) other_id fs.post.words p
 
-    by-id : 0 < f.id.size → IdAt s (record { from = f.id.from; size = f.id.size })
-    by-id h = record { words = first_some s f.id.from f.id.size (field_of Id (parts 0 s)) (leading_id (parts 0 s)) fs.id.inside fs.id.words h ∙ no-post; inside = fs.id.inside }
+    by-id : 0 < f.id.value.size → IdAt s f.id.value
+    by-id h = record { words = first_some s f.id.value.from f.id.value.size (field_of Id (parts 0 s)) (leading_id (parts 0 s)) fs.id.inside fs.id.words h ∙ no-post; inside = fs.id.inside }
 
-    by-lead : f.id.size ≤ 0 → IdAt s (record { from = l.from; size = l.size })
-    by-lead q = record { words = ld.words ∙ first-none s f.id.from f.id.size (field_of Id (parts 0 s)) (leading_id (parts 0 s)) fs.id.words q ∙ no-post; inside = ld.inside }
+    by-lead : f.id.value.size ≤ 0 → IdAt s l.id
+    by-lead q = record { words = ld.words ∙ first-none s f.id.value.from f.id.value.size (field_of Id (parts 0 s)) (leading_id (parts 0 s)) fs.id.words q ∙ no-post; inside = ld.inside }
 
-    no-post-id : IdAt s (cond (ltb 0 f.id.size) (record { from = f.id.from; size = f.id.size }) (record { from = l.from; size = l.size }))
-    no-post-id = elim (dec_le f.id.size 0) [ yes q ↦ rw (le-ltb 0 f.id.size q) (by-lead q) | no q ↦ rw (lt-ltb 0 f.id.size (omega arith)) (by-id (omega arith)) ]
+    no-post-id : IdAt s (cond (ltb 0 f.id.value.size) f.id.value l.id)
+    no-post-id = elim (dec_le f.id.value.size 0) [ yes q ↦ rw (le-ltb 0 f.id.value.size q) (by-lead q) | no q ↦ rw (lt-ltb 0 f.id.value.size (omega arith)) (by-id (omega arith)) ]
 
   pub id-at : IdAt s (id_by f l)
-  id-at = elim (dec_le f.post.size 0) [ yes p ↦ rw (le-ltb 0 f.post.size p) (no-post-id p) | no p ↦ rw (lt-ltb 0 f.post.size (omega arith)) (by-post (omega arith)) ]
+  id-at = elim (dec_le f.post.value.size 0) [ yes p ↦ rw (le-ltb 0 f.post.value.size p) (no-post-id p) | no p ↦ rw (lt-ltb 0 f.post.value.size (omega arith)) (by-post (omega arith)) ]

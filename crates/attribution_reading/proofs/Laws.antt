@@ -15,7 +15,7 @@ use Rattle.text.proofs.Bytes.{first_stops, first_past}
 use Rattle.attribution_reading.specs.declared.scan.Value.{Value}
 use Rattle.attribution_reading.specs.declared.scan.Place.{Place}
 use Rattle.attribution_parts.specs.Parts.{Part, is_space, is_quote, in_quotes, value, value_size, starts_key, in_key, key_size, part_at, part_size, size_at, parts, here, more}
-use Rattle.attribution_reading.specs.Places.{bytes, RunAt, ValueAt, PartAt, Stands, Scanned, part_of}
+use Rattle.attribution_reading.specs.Places.{bytes, RunAt, ValueAt, PartAt, Stands, Scanned, part_of, part_with}
 
 -- ---- values
 
@@ -48,7 +48,7 @@ open-unquoted s at close lt e p le =
 
 pub value-quoted : (s : List ℕ) (at close : ℕ) → at < length s → is_quote (get_or s at 0) ≡ true
     → close ≡ at + 1 + to_first (λ b. eqb b (get_or s at 0)) (drop (at + 1) s) → close < length s
-    → ValueAt s at (record { from = at + 1; size = close - (at + 1); next = close + 1 })
+    → ValueAt s at (record { words = record { from = at + 1; size = close - (at + 1) }; next = close + 1 })
 unfolding in_quotes value value_size bytes
 value-quoted s at close lt e p h =
     let n : length (drop (suc at) s) ≡ length s - suc at = length-drop (suc at) s in
@@ -135,12 +135,12 @@ key-unquoted s at lt h = other-unquoted s at lt (by (get_or s at 0) (is_quote (g
 
 -- ---- parts
 
-pub part-text : (s : List ℕ) (at : ℕ) (v : Value) → key_size (drop at s) ≡ 0 → ValueAt s at v → PartAt s at (record { key = at; keylen = 0; from = v.from; size = v.size; next = v.next })
+pub part-text : (s : List ℕ) (at : ℕ) (v : Value) → key_size (drop at s) ≡ 0 → ValueAt s at v → PartAt s at (record { key = record { from = at; size = 0 }; value = v.words; next = v.next })
 unfolding part_of part_at part_size
 part-text s at v k h = record { part = rw (k, h.words, h.quoted); next = rw k h.next; key = omega arith; key-ends = omega (arith, h.next); starts = h.starts; ends = h.ends; inside = h.inside }
 
 pub part_field : (s : List ℕ) (at end : ℕ) (v : Value) → at < length s → starts_key (get_or s at 0) ≡ true → end ≡ at + to_first no_key (drop at s) → get_or s end 0 ≡ 61
-    → ValueAt s (end + 1) v → PartAt s at (record { key = at; keylen = end - at; from = v.from; size = v.size; next = v.next })
+    → ValueAt s (end + 1) v → PartAt s at (record { key = record { from = at; size = end - at }; value = v.words; next = v.next })
 unfolding part_of part_at part_size bytes
 part_field s at end v lt e p q h =
     let m = to_first no_key (drop (suc at) s) in
@@ -207,10 +207,9 @@ parts_first s at lt e =
     (ap (λ (l : List Part). part_at (drop at s) ∷ l) (parts-skip (part_size (drop at s) - 1) (drop (suc at) s) ∙ ap (parts 0) (drop-drop (part_size (drop at s) - 1) (suc at) s ∙ ap (λ (x : ℕ). drop x s) w)))
 
 -- the place of the next part does not matter
-place-next : (s : List ℕ) (k l f z a b : ℕ) → part_of s (record { key = k; keylen = l; from = f; size = z; next = a }) ≡ part_of s (record { key = k; keylen = l; from = f; size = z; next = b })
-unfolding part_of
-place-next s k zero f z a b = refl
-place-next s k (suc l) f z a b = refl
+place-next : (s : List ℕ) (k : ℕ) (p : Place) (n : ℕ) → part_with k s p ≡ part_with k s (record { key = p.key; value = p.value; next = n })
+place-next s zero p n = refl
+place-next s (suc k) p n = refl
 
 drop_more : {A : Type 0} (i : ℕ) (xs : List A) (x : A) (ys : List A) → drop i xs ≡ x ∷ ys → drop (suc i) xs ≡ ys
 drop_more zero xs x ys e = rw e
@@ -224,12 +223,13 @@ begin s at p le = record { inside = le; begins = stops s 0 at p; rest = skipped 
 
 pub scanned : (s : List ℕ) (at to : ℕ) (p : Place) → at < length s → is_space (get_or s at 0) ≡ false → PartAt s at p
     → to ≡ p.next + to_first (λ b. not (is_space b)) (drop p.next s) → to ≤ length s
-    → Scanned s at (record { key = p.key; keylen = p.keylen; from = p.from; size = p.size; next = to })
+    → Scanned s at (record { key = p.key; value = p.value; next = to })
+unfolding part_of
 scanned s at to p lt b h q le =
     let z = some_size s at lt b in
     record {
       part = parts_first s at lt b ∙ (let r : parts 0 (drop (at + part_size (drop at s)) s) ≡ parts 0 (drop to s) = ap (λ (x : ℕ). parts 0 (drop x s)) (sym h.next) ∙ skipped s p.next to q in
-          rw (← r, ← h.part) (ap (λ (x : Part). x ∷ parts 0 (drop (at + part_size (drop at s)) s)) (place-next s p.key p.keylen p.from p.size p.next to)));
+          rw (← r, ← h.part) (ap (λ (x : Part). x ∷ parts 0 (drop (at + part_size (drop at s)) s)) (place-next s p.key.size p to)));
       key = h.key;
       key-ends = omega (arith, h.key-ends, q);
       starts = h.starts;

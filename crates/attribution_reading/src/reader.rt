@@ -1,4 +1,4 @@
-// The reader: it keeps the attribution beside the next part's start. Its functions are thin, and the scanner does the work.
+// The reader: it keeps the attribution beside the next part's start. Its methods are thin, and the scanner does the work.
 ghost use Rattle.std.specs.Prelude.{◌≡◌, false, ◌<◌, length, get_or};
 ghost use Rattle.attribution_parts.specs.Parts.{is_space};
 ghost use Rattle.attribution_reading.specs.Places.{Scanned};
@@ -11,22 +11,23 @@ pub struct Reader<'a> {
     pub next: usize,
 }
 
-// A reader whose next part starts at `next`.
-pub fn reader_at<'a>(attribution: &'a [u8], next: usize) -> Reader<'a>
-    ensures { (result.attribution ≡ attribution.entry) × (result.next ≡ next) }
-{
-    Reader { attribution, next }
-}
+impl<'a> Reader<'a> {
+    // A reader whose next part starts at `next`.
+    pub fn new(attribution: &'a [u8], next: usize) -> Self
+        ensures { (result.attribution ≡ attribution.entry) × (result.next ≡ next) }
+    {
+        Reader { attribution, next }
+    }
 
-// The next part; the reader goes on to the one behind it.
-pub fn next_part<'s, 'a>(reader: &'s mut Reader<'a>) -> Place
-    requires { (reader.old.next < length reader.old.attribution.now) × (is_space (get_or reader.old.attribution.now reader.old.next 0) ≡ false) }
-    ensures { Scanned reader.old.attribution.now reader.old.next result × ((reader.new.attribution ≡ reader.old.attribution) × (reader.new.next ≡ result.next)) }
-{
-    let at = reader.next;
-    let p = scan_at(reader.attribution, at);
-    reader.next = p.next;
-    p
+    // The next part; the reader goes on to the one behind it.
+    pub fn next_part(&mut self) -> Place
+        requires { (self.old.next < length self.old.attribution.now) × (is_space (get_or self.old.attribution.now self.old.next 0) ≡ false) }
+        ensures { Scanned self.old.attribution.now self.old.next result × ((self.new.attribution ≡ self.old.attribution) × (self.new.next ≡ result.next)) }
+    {
+        let p = scan_at(self.attribution, self.next);
+        self.next = p.next;
+        p
+    }
 }
 
 // The part that starts at `at`. Its slice is plain: whoever calls it needs no reader.
@@ -34,6 +35,5 @@ pub fn read_part(s: &[u8], at: usize) -> Place
     requires { (at < length s.now) × (is_space (get_or s.now at 0) ≡ false) }
     ensures { Scanned s.now at result }
 {
-    let mut reader = reader_at(s, at);
-    next_part(&mut reader)
+    Reader::new(s, at).next_part()
 }

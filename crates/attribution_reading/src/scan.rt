@@ -1,119 +1,65 @@
 // The scanner: one part of an attribution, from a place on.
-ghost use Rattle.std.specs.Prelude.{◌≡◌, false, not, ◌+◌, ◌≤◌, ◌<◌, length, drop, get_or, eqb};
+ghost use Rattle.std.specs.Prelude.{◌≡◌, false, ◌+◌, ◌≤◌, ◌<◌, length, drop, get_or};
 ghost use Rattle.text.specs.Ascii.{to_first};
-ghost use Rattle.attribution_parts.specs.Parts.{is_space, in_key, starts_key};
-ghost use Rattle.attribution_reading.specs.Places.{RunAt, ValueAt, PartAt, Stands, Scanned};
+ghost use Rattle.attribution_parts.specs.Parts.{is_space, is_quote, in_key, starts_key};
+ghost use Rattle.attribution_reading.specs.Places.{bytes, RunAt, ValueAt, PartAt, Stands, Scanned};
 
-use text::scan::is_inside;
+use text::scan::first_from;
 
-// Where a value stands: from `from`, `size` bytes; `next` is the place behind it.
+// Bytes that stand together: from `from`, `size` of them. None of them is as nothing found: both are empty in document 01's rule.
 #[derive(Clone, Copy)]
-pub struct Value {
+pub struct Extent {
     pub from: usize,
     pub size: usize,
+}
+
+impl Extent {
+    // Its bytes in s.
+    pub fn of<'a>(self, s: &'a [u8]) -> &'a [u8]
+        requires { self.from + self.size ≤ length s.now }
+        ensures { result.now ≡ bytes s.now self.from self.size }
+    {
+        &s[self.from..self.from + self.size]
+    }
+}
+
+// Where a value stands; `next` is the place behind it.
+#[derive(Clone, Copy)]
+pub struct Value {
+    pub words: Extent,
     pub next: usize,
 }
 
-// Where a part stands: its key from `key`, `keylen` bytes (0: a text, quoted where it does not begin at `key`), and its value.
+// Where a part stands: its key (empty: a text, quoted where its value does not begin at `key.from`), and its value.
 #[derive(Clone, Copy)]
 pub struct Place {
-    pub key: usize,
-    pub keylen: usize,
-    pub from: usize,
-    pub size: usize,
+    pub key: Extent,
+    pub value: Extent,
     pub next: usize,
 }
 
 fn is_space(b: u8) -> bool
     ensures { result ≡ is_space b }
 {
-    (b == b' ') | (b == b'\t') | (b == b'\n') | (b == b'\r') | (b == 12)
+    matches!(b, b' ' | b'\t' | b'\n' | b'\r' | b'\x0c')
 }
 
-// The end of the run that starts at `at`.
-fn run_end(s: &[u8], at: usize) -> usize
-    requires { at ≤ length s.now }
-    ensures { (result ≡ at + to_first is_space (drop at s.now)) × (result ≤ length s.now) }
+pub fn is_quote(b: u8) -> bool
+    ensures { result ≡ is_quote b }
 {
-    let mut i = at;
-    while i < s.len() {
-        if is_space(s[i]) {
-            return i;
-        }
-        i += 1;
-    }
-    i
-}
-
-// The place of the first `q` from `at` on, the end where there is none.
-fn find(s: &[u8], at: usize, q: u8) -> usize
-    requires { at ≤ length s.now }
-    ensures { (result ≡ at + to_first (λ b. eqb b q) (drop at s.now)) × (result ≤ length s.now) }
-{
-    let mut i = at;
-    while i < s.len() {
-        if s[i] == q {
-            return i;
-        }
-        i += 1;
-    }
-    i
-}
-
-fn in_key(b: u8) -> bool
-    ensures { result ≡ in_key b }
-{
-    if starts_key(b) {
-        return true;
-    }
-    if is_inside(b'0', b'9', b) {
-        return true;
-    }
-    b == b'-'
+    matches!(b, b'"' | b'\'')
 }
 
 fn starts_key(b: u8) -> bool
     ensures { result ≡ starts_key b }
 {
-    if is_inside(b'a', b'z', b) {
-        return true;
-    }
-    if is_inside(b'A', b'Z', b) {
-        return true;
-    }
-    b == b'_'
+    b.is_ascii_alphabetic() || b == b'_'
 }
 
-// The end of the bytes from `at` on that a key may have.
-fn key_end(s: &[u8], at: usize) -> usize
-    requires { at ≤ length s.now }
-    ensures { (result ≡ at + to_first (λ b. not (in_key b)) (drop at s.now)) × (result ≤ length s.now) }
+fn in_key(b: u8) -> bool
+    ensures { result ≡ in_key b }
 {
-    let mut i = at;
-    while i < s.len() {
-        if in_key(s[i]) {
-            i += 1;
-        } else {
-            return i;
-        }
-    }
-    i
-}
-
-// The first byte from `at` on that is no space.
-fn skip_spaces(s: &[u8], at: usize) -> usize
-    requires { at ≤ length s.now }
-    ensures { (result ≡ at + to_first (λ b. not (is_space b)) (drop at s.now)) × (result ≤ length s.now) }
-{
-    let mut i = at;
-    while i < s.len() {
-        if is_space(s[i]) {
-            i += 1;
-        } else {
-            return i;
-        }
-    }
-    i
+    starts_key(b) || b.is_ascii_digit() || b == b'-'
 }
 
 // The run at `at`, of which no byte before `past` is a space.
@@ -121,10 +67,12 @@ fn run_value(s: &[u8], at: usize, past: usize) -> Value
     requires { (at ≤ past) × ((past ≤ length s.now) × (past + to_first is_space (drop past s.now) ≡ at + to_first is_space (drop at s.now))) }
     ensures { RunAt s.now at result }
 {
-    let end = run_end(s, past);
+    let end = first_from(s, past, |b| is_space(b));
     Value {
-        from: at,
-        size: end - at,
+        words: Extent {
+            from: at,
+            size: end - at,
+        },
         next: end,
     }
 }
@@ -134,21 +82,19 @@ fn value_at(s: &[u8], at: usize) -> Value
     requires { at ≤ length s.now }
     ensures { ValueAt s.now at result }
 {
-    if at < s.len() {
-        let q = s[at];
-        if (q == b'"') | (q == b'\'') {
-            let start = at + 1;
-            let close = find(s, start, q);
-            if close < s.len() {
-                return Value {
+    if at < s.len() && is_quote(s[at]) {
+        let start = at + 1;
+        let quote = s[at];
+        let close = first_from(s, start, |b| b == quote);
+        if close < s.len() {
+            return Value {
+                words: Extent {
                     from: start,
                     size: close - start,
-                    next: close + 1,
-                };
-            }
-            return run_value(s, at, at);
+                },
+                next: close + 1,
+            };
         }
-        return run_value(s, at, at);
     }
     run_value(s, at, at)
 }
@@ -158,43 +104,25 @@ pub fn part_at(s: &[u8], at: usize) -> Place
     requires { at < length s.now }
     ensures { PartAt s.now at result }
 {
+    let mut key = Extent { from: at, size: 0 };
     if starts_key(s[at]) {
-        let end = key_end(s, at);
-        if end < s.len() {
-            if s[end] == b'=' {
-                let v = value_at(s, end + 1);
-                return Place {
-                    key: at,
-                    keylen: end - at,
-                    from: v.from,
-                    size: v.size,
-                    next: v.next,
-                };
-            }
-            let v = run_value(s, at, end);
-            return Place {
-                key: at,
-                keylen: 0,
-                from: v.from,
-                size: v.size,
-                next: v.next,
-            };
-        }
-        let v = run_value(s, at, end);
+        let end = first_from(s, at, |b| !in_key(b));
+        let v = if end < s.len() && s[end] == b'=' {
+            key.size = end - at;
+            value_at(s, end + 1)
+        } else {
+            run_value(s, at, end)
+        };
         return Place {
-            key: at,
-            keylen: 0,
-            from: v.from,
-            size: v.size,
+            key,
+            value: v.words,
             next: v.next,
         };
     }
     let v = value_at(s, at);
     Place {
-        key: at,
-        keylen: 0,
-        from: v.from,
-        size: v.size,
+        key,
+        value: v.words,
         next: v.next,
     }
 }
@@ -203,7 +131,7 @@ pub fn part_at(s: &[u8], at: usize) -> Place
 pub fn first_at(s: &[u8]) -> usize
     ensures { Stands s.now 0 result }
 {
-    skip_spaces(s, 0)
+    first_from(s, 0, |b| !is_space(b))
 }
 
 // The part at `at`, and where the next one begins.
@@ -213,10 +141,7 @@ pub fn scan_at(s: &[u8], at: usize) -> Place
 {
     let p = part_at(s, at);
     Place {
-        key: p.key,
-        keylen: p.keylen,
-        from: p.from,
-        size: p.size,
-        next: skip_spaces(s, p.next),
+        next: first_from(s, p.next, |b| !is_space(b)),
+        ..p
     }
 }

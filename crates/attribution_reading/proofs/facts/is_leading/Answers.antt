@@ -1,12 +1,11 @@
-use mathlib.Core.Path.{sym, ◌∙◌}
-use Rattle.attribution_reading.proofs.Ids.{no-lead-field, no-lead-run, lead-digits}
+use native.Mathlib.Omega.{arith}
+use Rattle.std.proofs.Common.{rules}
+use Rattle.std.proofs.lemmas.Grind.{common_steps}
+use Rattle.attribution_reading.proofs.Ids.{lead-is}
 use Rattle.attribution_reading.proofs.facts.is_leading.Goals as goal
 
 pub returns-then-p : goal.returns-then-p
-returns-then-p c = let a = c.args in sym (no-lead-run a.s.now a.p c.if-p-eq0.true c.if-p.true)
+returns-then-p c = let a = c.args in rw (lead-is a.s.now a.p) (search rules)
 
-pub returns-then-p-eq0 : goal.returns-then-p-eq0
-returns-then-p-eq0 c = let a = c.args in c.is_digits.ensures ∙ sym (lead-digits a.s.now a.p c.if-p-eq0.true c.if-p.false)
-
-pub returns : goal.returns
-returns c = let a = c.args in sym (no-lead-field a.s.now a.p c.if-p-eq0.false)
+pub returns-else-p : goal.returns-else-p
+returns-else-p c = let a = c.args in rw (lead-is a.s.now a.p) (search rules)

@@ -1,39 +1,39 @@
-use native.Mathlib.Omega.{arith}
 use mathlib.Core.Path.{refl, sym, ◌∙◌}
-use Rattle.text.proofs.Decide.{or_yes}
+use mathlib.Core.Bool.{true≢false}
+use Rattle.text.specs.Ascii.{ascii}
+use Rattle.text.proofs.Decide.{or_yes, or_no}
 use Rattle.attribution_parts.specs.declared.Kind.TheVariants.{Name, PostId, Id, Date, Time}
-use Rattle.attribution_reading.proofs.Fielding.{tells-kind, tells-author, tells_none}
+use Rattle.attribution_reading.proofs.Fielding.{word-is, tells-kind, tells-none}
 use Rattle.attribution_reading.proofs.facts.kind_of_key.Goals as goal
+use Rattle.attribution_reading.proofs.facts.kind_of_key.Goals.{then-eq_ignore_ascii_case-5, else-eq_ignore_ascii_case-5}
 
-pub returns-then-is_word : goal.returns-then-is_word
-returns-then-is_word c = tells-kind Id _ (sym c.is_word.ensures ∙ c.if-is_word.true)
+pub returns-then-eq_ignore_ascii_case : goal.returns-then-eq_ignore_ascii_case
+returns-then-eq_ignore_ascii_case c = tells-kind PostId _ (sym (word-is (ascii "post_id") _ _ refl c.eq_ignore_ascii_case.ensures.test) ∙ c.if-eq_ignore_ascii_case.true)
 
-pub returns-then-n-eq2 : goal.returns-then-n-eq2
-returns-then-n-eq2 c = tells_none _ (λ _. sym c.is_word.ensures ∙ c.if-is_word.false) (λ e. absurd (omega (arith, c.if-n-eq2.true))) (λ e. absurd (omega (arith, c.if-n-eq2.true))) (λ e. absurd (omega (arith, c.if-n-eq2.true)))
+pub returns-then-eq_ignore_ascii_case-2 : goal.returns-then-eq_ignore_ascii_case-2
+returns-then-eq_ignore_ascii_case-2 c = tells-kind Id _ (sym (word-is (ascii "id") _ _ refl c.eq_ignore_ascii_case-else-eq_ignore_ascii_case.ensures.test) ∙ c.if-eq_ignore_ascii_case-2.true)
 
-pub returns-then-is_word-2 : goal.returns-then-is_word-2
-returns-then-is_word-2 c = tells-kind Name _ (or_yes _ _ _ (sym c.is_word-then-n-eq4.ensures ∙ c.if-is_word-2.true) refl)
+pub returns-then-eq_ignore_ascii_case-3 : goal.returns-then-eq_ignore_ascii_case-3
+returns-then-eq_ignore_ascii_case-3 c = tells-kind Date _ (sym (word-is (ascii "date") _ _ refl c.eq_ignore_ascii_case-else-eq_ignore_ascii_case-2.ensures.test) ∙ c.if-eq_ignore_ascii_case-3.true)
 
-pub returns-then-is_word-3 : goal.returns-then-is_word-3
-returns-then-is_word-3 c = tells-kind Date _ (sym c.is_word-then-n-eq4-2.ensures ∙ c.if-is_word-3.true)
+pub returns-then-eq_ignore_ascii_case-4 : goal.returns-then-eq_ignore_ascii_case-4
+returns-then-eq_ignore_ascii_case-4 c = tells-kind Time _ (sym (word-is (ascii "time") _ _ refl c.eq_ignore_ascii_case-else-eq_ignore_ascii_case-3.ensures.test) ∙ c.if-eq_ignore_ascii_case-4.true)
 
-pub returns-then-is_word-4 : goal.returns-then-is_word-4
-returns-then-is_word-4 c = tells-kind Time _ (sym c.is_word-then-n-eq4-3.ensures ∙ c.if-is_word-4.true)
+pub returns-then-eq_ignore_ascii_case-6 : goal.returns-then-eq_ignore_ascii_case-6
+returns-then-eq_ignore_ascii_case-6 c = tells-kind Name _ (elim c.if-eq_ignore_ascii_case-5.branch [
+  | then-eq_ignore_ascii_case-5 w ↦ or_yes _ _ _ (sym (word-is (ascii "name") _ _ refl c.eq_ignore_ascii_case-else-eq_ignore_ascii_case-4.ensures.test) ∙ w.if-eq_ignore_ascii_case-5.true) refl
+  | else-eq_ignore_ascii_case-5 w ↦ or_no _ _ _ (sym (word-is (ascii "name") _ _ refl c.eq_ignore_ascii_case-else-eq_ignore_ascii_case-4.ensures.test) ∙ w.if-eq_ignore_ascii_case-5.false)
+      (sym (word-is (ascii "author") _ _ refl w.eq_ignore_ascii_case-else-eq_ignore_ascii_case-5.ensures.test) ∙ sym w.value-is ∙ c.if-eq_ignore_ascii_case-6.true)
+])
 
-pub returns-then-n-eq4 : goal.returns-then-n-eq4
-returns-then-n-eq4 c = tells_none _ (λ e. absurd (omega (arith, c.if-n-eq4.true))) (λ _. (sym c.is_word-then-n-eq4.ensures ∙ c.if-is_word-2.false, (sym c.is_word-then-n-eq4-2.ensures ∙ c.if-is_word-3.false, sym c.is_word-then-n-eq4-3.ensures ∙ c.if-is_word-4.false))) (λ e. absurd (omega (arith, c.if-n-eq4.true))) (λ e. absurd (omega (arith, c.if-n-eq4.true)))
-
-pub returns-then-is_word-5 : goal.returns-then-is_word-5
-returns-then-is_word-5 c = tells-author _ (sym c.is_word-then-n-eq6.ensures ∙ c.if-is_word-5.true)
-
-pub returns-then-n-eq6 : goal.returns-then-n-eq6
-returns-then-n-eq6 c = tells_none _ (λ e. absurd (omega (arith, c.if-n-eq6.true))) (λ e. absurd (omega (arith, c.if-n-eq6.true))) (λ _. sym c.is_word-then-n-eq6.ensures ∙ c.if-is_word-5.false) (λ e. absurd (omega (arith, c.if-n-eq6.true)))
-
-pub returns-then-is_word-6 : goal.returns-then-is_word-6
-returns-then-is_word-6 c = tells-kind PostId _ (sym c.is_word-then-n-eq7.ensures ∙ c.if-is_word-6.true)
-
-pub returns-else-is_word-6 : goal.returns-else-is_word-6
-returns-else-is_word-6 c = tells_none _ (λ e. absurd (omega (arith, c.if-n-eq7.true))) (λ e. absurd (omega (arith, c.if-n-eq7.true))) (λ e. absurd (omega (arith, c.if-n-eq7.true))) (λ _. sym c.is_word-then-n-eq7.ensures ∙ c.if-is_word-6.false)
-
-pub returns-else-n-eq7 : goal.returns-else-n-eq7
-returns-else-n-eq7 c = tells_none _ (λ e. absurd (c.if-n-eq2.false e)) (λ e. absurd (c.if-n-eq4.false e)) (λ e. absurd (c.if-n-eq6.false e)) (λ e. absurd (c.if-n-eq7.false e))
+pub returns-else-eq_ignore_ascii_case-6 : goal.returns-else-eq_ignore_ascii_case-6
+returns-else-eq_ignore_ascii_case-6 c = tells-none _
+    (elim c.if-eq_ignore_ascii_case-5.branch [
+      | then-eq_ignore_ascii_case-5 w ↦ absurd (true≢false (sym (w.value-is ∙ w.if-eq_ignore_ascii_case-5.true) ∙ c.if-eq_ignore_ascii_case-6.false))
+      | else-eq_ignore_ascii_case-5 w ↦ or_no _ _ _ (sym (word-is (ascii "name") _ _ refl c.eq_ignore_ascii_case-else-eq_ignore_ascii_case-4.ensures.test) ∙ w.if-eq_ignore_ascii_case-5.false)
+          (sym (word-is (ascii "author") _ _ refl w.eq_ignore_ascii_case-else-eq_ignore_ascii_case-5.ensures.test) ∙ sym w.value-is ∙ c.if-eq_ignore_ascii_case-6.false)
+    ])
+    (sym (word-is (ascii "post_id") _ _ refl c.eq_ignore_ascii_case.ensures.test) ∙ c.if-eq_ignore_ascii_case.false)
+    (sym (word-is (ascii "id") _ _ refl c.eq_ignore_ascii_case-else-eq_ignore_ascii_case.ensures.test) ∙ c.if-eq_ignore_ascii_case-2.false)
+    (sym (word-is (ascii "date") _ _ refl c.eq_ignore_ascii_case-else-eq_ignore_ascii_case-2.ensures.test) ∙ c.if-eq_ignore_ascii_case-3.false)
+    (sym (word-is (ascii "time") _ _ refl c.eq_ignore_ascii_case-else-eq_ignore_ascii_case-3.ensures.test) ∙ c.if-eq_ignore_ascii_case-4.false)

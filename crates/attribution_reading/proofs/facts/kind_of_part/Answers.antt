@@ -1,21 +1,15 @@
 use mathlib.Core.Path.{sym, ◌∙◌}
-use mathlib.Core.Bool.{true, false}
-use borrow.Author.Tests.{lt-ltb, le-ltb}
-use Rattle.text.proofs.Decide.{cond_yes, cond_no}
-use Rattle.attribution_reading.proofs.Fielding.{some-value, tells-text, tells-part}
+use Rattle.attribution_reading.proofs.Fielding.{tells-text, tells-other, tells-usable, tells-unusable}
 use Rattle.attribution_reading.proofs.facts.kind_of_part.Goals as goal
 
 pub returns-then-p-eq0 : goal.returns-then-p-eq0
-returns-then-p-eq0 c = let a = c.args in tells-text a.s.now a.p c.if-p-eq0.true
+returns-then-p-eq0 c = tells-text c.args.s.now c.args.p c.if-p-eq0.true
 
-pub returns-then-is_digits : goal.returns-then-is_digits
-returns-then-is_digits c = let a = c.args in tells-part a.s.now a.p _ true c.if-p-eq0.false c.kind_of_key-k.ensures (cond_yes _ _ _ _ c.if-k.true (sym c.is_digits.ensures ∙ c.if-is_digits.true))
+pub returns-in_err-kind : goal.returns-in_err-kind
+returns-in_err-kind c = let a = c.args in rw c.from_residual.ensures (tells-other a.s.now a.p c.if-p-eq0.false (rw (c.of.ensures, c.in_err-kind.was) at c.kind_of_key.ensures))
 
-pub returns-then-k : goal.returns-then-k
-returns-then-k c = let a = c.args in tells-part a.s.now a.p _ false c.if-p-eq0.false c.kind_of_key-k.ensures (cond_yes _ _ _ _ c.if-k.true (sym c.is_digits.ensures ∙ c.if-is_digits.false))
+pub returns-then-is_usable : goal.returns-then-is_usable
+returns-then-is_usable c = let a = c.args in tells-usable a.s.now a.p c.if-p-eq0.false _ (rw (c.of.ensures, c.in_ok-kind.was) at c.kind_of_key.ensures) (rw c.of-2.ensures at (sym c.is_usable.ensures ∙ c.if-is_usable.true))
 
-pub returns-then-p-gt0 : goal.returns-then-p-gt0
-returns-then-p-gt0 c = let a = c.args in tells-part a.s.now a.p _ true c.if-p-eq0.false c.kind_of_key-k.ensures (cond_no _ _ _ _ c.if-k.false (some-value a.s.now a.p c.requires.1 ∙ lt-ltb _ _ c.if-p-gt0.true))
-
-pub returns : goal.returns
-returns c = let a = c.args in tells-part a.s.now a.p _ false c.if-p-eq0.false c.kind_of_key-k.ensures (cond_no _ _ _ _ c.if-k.false (some-value a.s.now a.p c.requires.1 ∙ le-ltb _ _ c.if-p-gt0.false))
+pub returns-else-is_usable : goal.returns-else-is_usable
+returns-else-is_usable c = let a = c.args in tells-unusable a.s.now a.p c.if-p-eq0.false _ (rw (c.of.ensures, c.in_ok-kind.was) at c.kind_of_key.ensures) (rw c.of-2.ensures at (sym c.is_usable.ensures ∙ c.if-is_usable.false))

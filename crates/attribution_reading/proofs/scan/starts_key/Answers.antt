@@ -1,12 +1,12 @@
-use mathlib.Core.Path.{sym}
-use Rattle.text.proofs.Decide.{decide}
+use native.Mathlib.Omega.{arith}
+use Rattle.std.proofs.lemmas.Bool.Decides.{nat_tests}
+use Rattle.text.specs.Ascii.{inside}
 use Rattle.attribution_reading.proofs.scan.starts_key.Goals as goal
 
-pub returns-then-is_inside : goal.returns-then-is_inside
-returns-then-is_inside c = sym (search decide depth 12)
+pub returns-then-is_ascii_alphabetic : goal.returns-then-is_ascii_alphabetic
+unfolding inside
+returns-then-is_ascii_alphabetic c = grind (arith, nat_tests, c.is_ascii_alphabetic.ensures.value)
 
-pub returns-then-is_inside-2 : goal.returns-then-is_inside-2
-returns-then-is_inside-2 c = sym (search decide depth 12)
-
-pub returns : goal.returns
-returns c = sym (search decide depth 12)
+pub returns-else-is_ascii_alphabetic : goal.returns-else-is_ascii_alphabetic
+unfolding inside
+returns-else-is_ascii_alphabetic c = grind (arith, nat_tests, c.is_ascii_alphabetic.ensures.value)
