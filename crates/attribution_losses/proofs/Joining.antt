@@ -94,11 +94,11 @@ added_more s from size start at le n h = rw (lt-ltb start at h) (by (bytes s fro
 
 -- ---- the joined texts make the name where there is no name field
 
-no-texts : (s : List ℕ) (f : Field) → FieldAt s Name f → (f.size ≡ 0 → ⊥) → [] ≡ name_texts s
+no-texts : (s : List ℕ) (f : Field) → FieldAt s Name f → (f.value.size ≡ 0 → ⊥) → [] ≡ name_texts s
 unfolding name_texts
-no-texts s f h n = let y : is_empty (field_of Name (parts 0 s)) ≡ false = sym (empty-is s Name f h) ∙ ne_eqb f.size 0 n in rw y
+no-texts s f h n = let y : is_empty (field_of Name (parts 0 s)) ≡ false = sym (empty-is s Name f h) ∙ ne_eqb f.value.size 0 n in rw y
 
-all-texts : (s : List ℕ) (f : Field) → FieldAt s Name f → f.size ≡ 0 → texts_of (drop (leading (parts 0 s)) (parts 0 s)) ≡ name_texts s
+all-texts : (s : List ℕ) (f : Field) → FieldAt s Name f → f.value.size ≡ 0 → texts_of (drop (leading (parts 0 s)) (parts 0 s)) ≡ name_texts s
 unfolding name_texts texts
 all-texts s f h z = let y : is_empty (field_of Name (parts 0 s)) ≡ true = sym (empty-is s Name f h) ∙ rw z in rw y
 
@@ -129,13 +129,13 @@ join-start v a n at l h = record {
   small = omega arith;
 }
 
-words-by : (s : List ℕ) (p : Place) → words_of (part_of s p) ≡ cond (eqb p.keylen 0) (bytes s p.from p.size) []
+words-by : (s : List ℕ) (p : Place) → words_of (part_of s p) ≡ cond (eqb p.key.size 0) (bytes s p.value.from p.value.size) []
 unfolding part_of
-words-by s p = by p.keylen
+words-by s p = by p.key.size
   where
-    by : (k : ℕ) → words_of (part_with k s p) ≡ cond (eqb k 0) (bytes s p.from p.size) []
+    by : (k : ℕ) → words_of (part_with k s p) ≡ cond (eqb k 0) (bytes s p.value.from p.value.size) []
     by zero = refl
-    by (suc k) = sym (ap (λ (t : Bool). cond t (bytes s p.from p.size) []) (ne_eqb (suc k) 0 (λ (z : suc k ≡ 0). omega arith)))
+    by (suc k) = sym (ap (λ (t : Bool). cond t (bytes s p.value.from p.value.size) []) (ne_eqb (suc k) 0 (λ (z : suc k ≡ 0). omega arith)))
 
 added_len : (some : Bool) (w : List ℕ) → length (added some w) ≤ 1 + length w
 unfolding added
@@ -162,7 +162,7 @@ module _ (v : List ℕ) (a n at : ℕ) (v' : List ℕ) (pos to : ℕ) (j : Joini
     sc : Scanned (bytes v a n) pos p
     sc = rw (← slice_kept) sc'
 
-    pub join-room : (p.from + p.size ≤ n) × ((pos < p.next) × ((p.next ≤ n) × (p.size + pos ≤ p.next)))
+    pub join-room : (p.value.from + p.value.size ≤ n) × ((pos < p.next) × ((p.next ≤ n) × (p.value.size + pos ≤ p.next)))
     join-room = let m = slice-length in (omega (arith, m, sc.ends, sc.inside), (sc.grows, (omega (arith, m, sc.inside), omega (arith, sc.starts, sc.ends))))
 
     same-part : part_of (bytes v' a n) p ≡ part_of (bytes v a n) p
@@ -176,17 +176,17 @@ module _ (v : List ℕ) (a n at : ℕ) (v' : List ℕ) (pos to : ℕ) (j : Joini
         let f = found_here (bytes v a n) Name j.index pos p nothing j.stands sc j.unnamed t in
         puts-as (no-texts (bytes v a n) _ (f.yes (λ z. omega arith)) (λ z. omega arith)) (puts_back j.puts)
 
-    pub join-turn : (v₁ : List ℕ) (r : ℕ) → counts Name (part_of (bytes v' a n) p) ≡ false → Puts v' to v₁ r (added (ltb at to) (cond (eqb p.keylen 0) (bytes v' (a + p.from) p.size) [])) → Joining v a n at v₁ p.next r
+    pub join-turn : (v₁ : List ℕ) (r : ℕ) → counts Name (part_of (bytes v' a n) p) ≡ false → Puts v' to v₁ r (added (ltb at to) (cond (eqb p.key.size 0) (bytes v' (a + p.value.from) p.value.size) [])) → Joining v a n at v₁ p.next r
     join-turn v₁ r o q =
         let s = bytes v a n in
-        let w : cond (eqb p.keylen 0) (bytes v' (a + p.from) p.size) [] ≡ words_of (part_of s p) =
-        ap (λ (x : List ℕ). cond (eqb p.keylen 0) x []) (sym (bytes-bytes v' a n p.from p.size join-room.0) ∙ ap (λ (x : List ℕ). bytes x p.from p.size) slice_kept) ∙ sym (words-by s p) in
-        let z : texts_of j.read ++ added (ltb at to) (cond (eqb p.keylen 0) (bytes v' (a + p.from) p.size) []) ≡ texts_of (j.read ++ (part_of s p ∷ [])) =
+        let w : cond (eqb p.key.size 0) (bytes v' (a + p.value.from) p.value.size) [] ≡ words_of (part_of s p) =
+        ap (λ (x : List ℕ). cond (eqb p.key.size 0) x []) (sym (bytes-bytes v' a n p.value.from p.value.size join-room.0) ∙ ap (λ (x : List ℕ). bytes x p.value.from p.value.size) slice_kept) ∙ sym (words-by s p) in
+        let z : texts_of j.read ++ added (ltb at to) (cond (eqb p.key.size 0) (bytes v' (a + p.value.from) p.value.size) []) ≡ texts_of (j.read ++ (part_of s p ∷ [])) =
         rw w (sym (texts-more j.read (part_of s p) ∙ spaced-added (texts_of j.read) (words_of (part_of s p)) (ltb at to) (some-put (texts_of j.read) at to j.puts.end))) in
         let vl = j.puts.size in
-        let m = length-bytes v' (a + p.from) p.size (omega (arith, vl, ins, join-room.0)) in
-        let u = cond-len (eqb p.keylen 0) (bytes v' (a + p.from) p.size) p.size m in
-        let y = added_len (ltb at to) (cond (eqb p.keylen 0) (bytes v' (a + p.from) p.size) []) in
+        let m = length-bytes v' (a + p.value.from) p.value.size (omega (arith, vl, ins, join-room.0)) in
+        let u = cond-len (eqb p.key.size 0) (bytes v' (a + p.value.from) p.value.size) p.value.size m in
+        let y = added_len (ltb at to) (cond (eqb p.key.size 0) (bytes v' (a + p.value.from) p.value.size) []) in
         record {
           index = j.index + 1;
           stands = scan-on s j.index pos p j.stands sc;

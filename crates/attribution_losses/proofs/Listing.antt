@@ -1,6 +1,9 @@
 -- Laws of putting bytes and numbers, and of listing losses. Assumes nothing.
 use mathlib.Core.Path.{◌≡◌, refl, sym, ap, ◌∙◌}
-use mathlib.Core.Bool.{false}
+use mathlib.Core.Bool.{Bool, true, false}
+use mir.Val.{bool_byte}
+use Rattle.std.proofs.lemmas.List.{take-append-le}
+use Rattle.std.proofs.lemmas.List.Edits.{take-paste}
 use mathlib.Core.List.{List, [], ◌∷◌, ◌++◌, append-nil, append_assoc}
 use Prim.Native.Nat.{ℕ, zero, suc, ◌+◌, ◌-◌, ◌*◌, ◌≤◌, ◌<◌}
 use native.Mathlib.Nat.{add-zero, le_refl}
@@ -8,7 +11,7 @@ use native.Mathlib.Numerals.{add-one}
 use native.Mathlib.Omega.{arith}
 use lib.Dec.{eqb}
 use lib.ListN.{length, take, drop, get_or, set, length-set, length-append, length-drop}
-use lib.Seq.{take-suc, take-suc-set, take-set-le, take-take, get_or-drop}
+use lib.Seq.{take-take, length-take-le, paste}
 use borrow.Author.Tests.{ne_eqb}
 use Rattle.attribution_parts.specs.Attribution.{Loss, loss_of}
 use Rattle.attribution_reading.specs.Places.{bytes}
@@ -16,58 +19,45 @@ use Rattle.attribution_losses.specs.Lists.{Puts, flag, record_of, records_of, lo
 
 -- ---- putting
 
-pub puts_none : (v : List ℕ) (at : ℕ) → Puts v at v at []
+pub puts_none : {T : Type 0} (v : List T) (at : ℕ) → Puts v at v at []
 puts_none v at = record { size = refl; end = sym (add-zero at); keeps = refl; text = λ h. sym (append-nil (take at v)) }
 
-pub puts-set : (v : List ℕ) (at b : ℕ) → at < length v → Puts v at (set v at b) (at + 1) (b ∷ [])
-puts-set v at b lt = record {
-  size = length-set v at b;
-  end = refl;
-  keeps = take-set-le at v at b (le_refl at);
-  text = λ h. rw (add-one, take-suc-set v at b lt);
-}
-
-pub puts-past : (v : List ℕ) (at b : ℕ) → length v ≤ at → Puts v at v (at + 1) (b ∷ [])
-puts-past v at b le = record { size = refl; end = refl; keeps = refl; text = λ h. absurd (omega arith) }
-
-pub puts_then : {v v₁ v₂ t u : List ℕ} {a b c : ℕ} → Puts v a v₁ b t → Puts v₁ b v₂ c u → Puts v a v₂ c (t ++ u)
-puts_then {v} {v₁} {v₂} {t} {u} {a} {b} {c} p q =
+pub puts_then : {T : Type 0} {v v₁ v₂ t u : List T} {a b c : ℕ} → Puts v a v₁ b t → Puts v₁ b v₂ c u → Puts v a v₂ c (t ++ u)
+puts_then {T} {v} {v₁} {v₂} {t} {u} {a} {b} {c} p q =
     let n = length-append t u in
     let le : a ≤ b = omega (arith, p.end) in
     record {
       size = q.size ∙ p.size;
       end = omega (arith, n, p.end, q.end);
       keeps = sym (take-take a b v₂ le) ∙ ap (take a) q.keeps ∙ take-take a b v₁ le ∙ p.keeps;
-      text = λ h. q.text (omega (arith, p.size)) ∙ ap (λ (l : List ℕ). l ++ u) (p.text (omega (arith, q.end))) ∙ append_assoc (take a v) t u;
+      text = λ h. q.text (omega (arith, p.size)) ∙ ap (λ (l : List T). l ++ u) (p.text (omega (arith, q.end))) ∙ append_assoc (take a v) t u;
     }
 
--- one byte more of a source
-pub bytes-more : (s : List ℕ) (from i : ℕ) → from + i < length s → bytes s from (i + 1) ≡ bytes s from i ++ (get_or s (from + i) 0 ∷ [])
-unfolding bytes
-bytes-more s from i lt =
-    let n = length-drop from s in
-    rw (add-one, take-suc (drop from s) i 0 (omega (arith, n)), get_or-drop from s i 0)
-
-pub bytes-none : (s : List ℕ) (from : ℕ) → bytes s from 0 ≡ []
-unfolding bytes
-bytes-none s from = refl
-
-pub puts-turn : {v v₁ v₂ : List ℕ} {at to r : ℕ} (s : List ℕ) (from i b : ℕ) → from + i < length s → b ≡ get_or s (from + i) 0
-    → Puts v at v₁ to (bytes s from i) → Puts v₁ to v₂ r (b ∷ []) → Puts v at v₂ r (bytes s from (i + 1))
-puts-turn s from i b lt e p q = rw (bytes-more s from i lt, ← e) (puts_then p q)
-
-pub puts-as : {v v' t u : List ℕ} {a b : ℕ} → t ≡ u → Puts v a v' b t → Puts v a v' b u
+pub puts-as : {T : Type 0} {v v' t u : List T} {a b : ℕ} → t ≡ u → Puts v a v' b t → Puts v a v' b u
 puts-as e p = rw (← e) p
 
--- ---- records
+pub puts-past : {T : Type 0} (v t : List T) (at end : ℕ) → end ≡ at + length t → length v < end → Puts v at v end t
+puts-past v t at end e lt = record { size = refl; end = e; keeps = refl; text = λ h. absurd (omega arith) }
 
-pub record-put : {v v₁ v₂ v₃ v₄ v₅ : List ℕ} {at a b c d e : ℕ} (k q l u s n : ℕ) → at ≡ 5 * k
-    → Puts v at v₁ a (q ∷ []) → Puts v₁ a v₂ b (l ∷ []) → Puts v₂ b v₃ c (u ∷ []) → Puts v₃ c v₄ d (s ∷ []) → Puts v₄ d v₅ e (n ∷ [])
-    → Puts v (5 * k) v₅ (5 * (k + 1)) (q ∷ l ∷ u ∷ s ∷ n ∷ [])
-record-put {at} {e} k q l u s n z p₁ p₂ p₃ p₄ p₅ =
-    let h = puts_then (puts_then (puts_then (puts_then p₁ p₂) p₃) p₄) p₅ in
-    let f : e ≡ 5 * (k + 1) = omega (arith, h.end, z) in
-    rw (← z, ← f) h
+-- n elements of s have been copied over those from `at` on
+pub puts-pasted : (v s : List ℕ) (at n : ℕ) → at + n ≤ length v → n ≤ length s → (v' : List ℕ) → length v' ≡ length v → v' ≡ paste v at s n → Puts v at v' (at + n) (take n s)
+puts-pasted v s at n le m v' z e =
+    let t : take (at + n) v' ≡ take at v ++ take n s = rw e (take-paste v at s n (omega arith) m) in
+    let w : length (take n s) ≡ n = length-take-le n s m in
+    let a : length (take at v) ≡ at = length-take-le at v (omega arith) in
+    record {
+      size = z;
+      end = omega (arith, w);
+      keeps = sym (take-take at (at + n) v' (omega arith)) ∙ ap (take at) t ∙ take-append-le at (take at v) (take n s) (omega (arith, a)) ∙ take-take at at v (le_refl at);
+      text = λ h. t;
+    }
+
+-- a flag as a number
+pub flag-is : (u : Bool) → bool_byte u ≡ flag u
+flag-is true = refl
+flag-is false = refl
+
+-- ---- records
 
 pub no_record : (v : List ℕ) (k q l u start end : ℕ) → start ≡ end → Puts v (5 * k) v (5 * k) (record_of q l u start (end - start)) × ((k ≤ k) × (k ≤ k + 1))
 unfolding record_of
@@ -108,24 +98,18 @@ lists-then {q} {l} {k} {k₁} {k₂} {to} {to₁} {to₂} {rs} {rs₁} {rs₂} {
       words = rw (loss_words-append xs ys) (puts_then p.words r.words);
     }
 
-pub flag-back : (u : ℕ) → u ≤ 1 → flag (eqb u 1) ≡ u
-flag-back zero h = refl
-flag-back (suc zero) h = refl
-flag-back (suc (suc u)) h = absurd (omega arith)
-
 -- one loss, if any
-pub lists-one : {rs rs' bs bs' : List ℕ} {k r to e : ℕ} (q l u : ℕ) (w : List ℕ) → u ≤ 1
-    → Puts rs (5 * k) rs' (5 * r) (record_of q l u to (e - to)) → Puts bs to bs' e w → Lists q l rs k bs to rs' r bs' e (loss_of (eqb u 1) w)
+pub lists-one : {rs rs' bs bs' : List ℕ} {k r to e : ℕ} (q l : ℕ) (u : Bool) (w : List ℕ) → Puts rs (5 * k) rs' (5 * r) (record_of q l (flag u) to (e - to)) → Puts bs to bs' e w → Lists q l rs k bs to rs' r bs' e (loss_of u w)
 unfolding records_of loss_words record_of
-lists-one {rs} {rs'} {bs} {bs'} {k} {r} {to} {e} q l u [] small p h =
+lists-one {rs} {rs'} {bs} {bs'} {k} {r} {to} {e} q l u [] p h =
     let z : e - to ≡ 0 = omega (arith, h.end) in
     let p' : Puts rs (5 * k) rs' (5 * r) [] = puts-as (rw z) p in
     record { records = p'; words = h }
-lists-one {rs} {rs'} {bs} {bs'} {k} {r} {to} {e} q l u (b ∷ w) small p h =
+lists-one {rs} {rs'} {bs} {bs'} {k} {r} {to} {e} q l u (b ∷ w) p h =
     let z : e - to ≡ suc (length w) = omega (arith, h.end) in
     let f : eqb (e - to) 0 ≡ false = ne_eqb (e - to) 0 (λ (y : e - to ≡ 0). omega (arith, z)) in
-    let p' : Puts rs (5 * k) rs' (5 * r) (q ∷ l ∷ u ∷ to ∷ suc (length w) ∷ []) = puts-as (rw (f, z)) p in
-    record { records = rw (flag-back u small) p'; words = rw append-nil h }
+    let p' : Puts rs (5 * k) rs' (5 * r) (q ∷ l ∷ flag u ∷ to ∷ suc (length w) ∷ []) = puts-as (rw (f, z)) p in
+    record { records = p'; words = rw append-nil h }
 
 pub lists-as : {q l k k' to to' : ℕ} {rs rs' bs bs' : List ℕ} {xs ys : List Loss} → xs ≡ ys → Lists q l rs k bs to rs' k' bs' to' xs → Lists q l rs k bs to rs' k' bs' to' ys
 lists-as e p = rw (← e) p

@@ -29,8 +29,8 @@ use Rattle.attribution_reading.proofs.Fielding.{length-bytes}
 use Rattle.attribution_reading.proofs.NoFields.{NoFields, no_part, a-text, no_fields_lem, field-none}
 use Rattle.attribution_losses.proofs.Listing.{puts_none, puts_then, puts-as, lists-none, lists-then, lists-one, lists-as}
 
-pub empty-is : (s : List ℕ) (k : Kind) (f : Field) → FieldAt s k f → eqb f.size 0 ≡ is_empty (field_of k (parts 0 s))
-empty-is s k f h = by (field_of k (parts 0 s)) f.size (sym (ap length h.words) ∙ length-bytes s f.from f.size h.inside)
+pub empty-is : (s : List ℕ) (k : Kind) (f : Field) → FieldAt s k f → eqb f.value.size 0 ≡ is_empty (field_of k (parts 0 s))
+empty-is s k f h = by (field_of k (parts 0 s)) f.value.size (sym (ap length h.words) ∙ length-bytes s f.value.from f.value.size h.inside)
   where
     by : (x : List ℕ) (n : ℕ) → length x ≡ n → eqb n 0 ≡ is_empty x
     by [] n e = rw (← e)
@@ -50,23 +50,23 @@ empty-words (b ∷ x) n e = ne_eqb n 0 (λ (z : n ≡ 0). omega (arith, z, e))
 -- ---- a part as the code sees it
 
 module _ (s : List ℕ) (p : Place) where
-  pub as-field : (p.keylen ≡ 0 → ⊥) → part_of s p ≡ field (bytes s p.key p.keylen) (bytes s p.from p.size)
+  pub as-field : (p.key.size ≡ 0 → ⊥) → part_of s p ≡ field (bytes s p.key.from p.key.size) (bytes s p.value.from p.value.size)
   unfolding part_of
-  as-field n = by p.keylen n
+  as-field n = by p.key.size n
     where
-      by : (m : ℕ) → (m ≡ 0 → ⊥) → part_with m s p ≡ field (bytes s p.key p.keylen) (bytes s p.from p.size)
+      by : (m : ℕ) → (m ≡ 0 → ⊥) → part_with m s p ≡ field (bytes s p.key.from p.key.size) (bytes s p.value.from p.value.size)
       by zero z = absurd (z refl)
       by (suc m) z = refl
 
-  pub as-quoted : p.keylen ≡ 0 → (p.from ≡ p.key → ⊥) → part_of s p ≡ text (bytes s p.from p.size) true
+  pub as-quoted : p.key.size ≡ 0 → (p.value.from ≡ p.key.from → ⊥) → part_of s p ≡ text (bytes s p.value.from p.value.size) true
   unfolding part_of
-  as-quoted e n = rw (e, ne_eqb p.from p.key n)
+  as-quoted e n = rw (e, ne_eqb p.value.from p.key.from n)
 
-  pub as-run : p.keylen ≡ 0 → p.from ≡ p.key → part_of s p ≡ text (bytes s p.from p.size) false
+  pub as-run : p.key.size ≡ 0 → p.value.from ≡ p.key.from → part_of s p ≡ text (bytes s p.value.from p.value.size) false
   unfolding part_of
-  as-run e f = rw (e, eq-eqb p.from p.key f)
+  as-run e f = rw (e, eq-eqb p.value.from p.key.from f)
 
-  pub text-either : p.keylen ≡ 0 → part_of s p ≡ text (bytes s p.from p.size) (not (eqb p.from p.key))
+  pub text-either : p.key.size ≡ 0 → part_of s p ≡ text (bytes s p.value.from p.value.size) (not (eqb p.value.from p.key.from))
   unfolding part_of
   text-either e = rw e
 
@@ -92,45 +92,45 @@ module _ (s : List ℕ) (i at : ℕ) (p : Place) (st : Stands s i at) (sc : Scan
         let fs = t.fields in
         rw (fs.name.here i index_in, fs.post.here i index_in, fs.time.here i index_in, fs.id.here i index_in, fs.date.here i index_in, t.seconds, empty-is s PostId f.post fs.post)
 
-    pub used-field : (p.keylen ≡ 0 → ⊥) → used_by f day i ≡ true → losses_at s false i at ≡ losses_at s false (i + 1) p.next
+    pub used-field : (p.key.size ≡ 0 → ⊥) → used_by f day i ≡ true → losses_at s false i at ≡ losses_at s false (i + 1) p.next
     unfolding losses_at losses_from loss_at
     used-field n u = rw (here-is (as-field s p n), ← used-is, u, add-one)
 
-    pub lost-field : (p.keylen ≡ 0 → ⊥) → used_by f day i ≡ false → losses_at s false i at ≡ loss_of false (bytes s p.key p.keylen) ++ losses_at s false (i + 1) p.next
+    pub lost-field : (p.key.size ≡ 0 → ⊥) → used_by f day i ≡ false → losses_at s false i at ≡ loss_of false (bytes s p.key.from p.key.size) ++ losses_at s false (i + 1) p.next
     unfolding losses_at losses_from loss_at
     lost-field n u = rw (here-is (as-field s p n), ← used-is, u, add-one)
 
-    no_name : f.name.size ≡ 0 → is_empty (field_of Name (parts 0 s)) ≡ true
+    no_name : f.name.value.size ≡ 0 → is_empty (field_of Name (parts 0 s)) ≡ true
     no_name z = sym (empty-is s Name f.name t.fields.name) ∙ rw z
 
-    a-name : (f.name.size ≡ 0 → ⊥) → is_empty (field_of Name (parts 0 s)) ≡ false
-    a-name z = sym (empty-is s Name f.name t.fields.name) ∙ ne_eqb f.name.size 0 z
+    a-name : (f.name.value.size ≡ 0 → ⊥) → is_empty (field_of Name (parts 0 s)) ≡ false
+    a-name z = sym (empty-is s Name f.name t.fields.name) ∙ ne_eqb f.name.value.size 0 z
 
-    pub silent-text : (quoted : Bool) → part_of s p ≡ text (bytes s p.from p.size) quoted → f.name.size ≡ 0 → losses_at s false i at ≡ losses_at s false (i + 1) p.next
+    pub silent-text : (quoted : Bool) → part_of s p ≡ text (bytes s p.value.from p.value.size) quoted → f.name.value.size ≡ 0 → losses_at s false i at ≡ losses_at s false (i + 1) p.next
     unfolding losses_at losses_from loss_at unnamed
     silent-text true w z = rw (here-is w, no_name z, add-one)
     silent-text false w z = rw (here-is w, no_name z, add-one) (same-run (parts 0 s) (suc i) rest (no_name z))
 
-    pub lost-quoted : part_of s p ≡ text (bytes s p.from p.size) true → (f.name.size ≡ 0 → ⊥) → losses_at s false i at ≡ loss_of true (bytes s p.from p.size) ++ losses_at s false (i + 1) p.next
+    pub lost-quoted : part_of s p ≡ text (bytes s p.value.from p.value.size) true → (f.name.value.size ≡ 0 → ⊥) → losses_at s false i at ≡ loss_of true (bytes s p.value.from p.value.size) ++ losses_at s false (i + 1) p.next
     unfolding losses_at losses_from loss_at unnamed
     lost-quoted w z = rw (here-is w, a-name z, add-one)
 
-    pub lost-run : part_of s p ≡ text (bytes s p.from p.size) false → (f.name.size ≡ 0 → ⊥)
-        → losses_at s false i at ≡ loss_of true (bytes s p.from p.size ++ run_at s p.next) ++ losses_at s true (i + 1) p.next
+    pub lost-run : part_of s p ≡ text (bytes s p.value.from p.value.size) false → (f.name.value.size ≡ 0 → ⊥)
+        → losses_at s false i at ≡ loss_of true (bytes s p.value.from p.value.size ++ run_at s p.next) ++ losses_at s true (i + 1) p.next
     unfolding losses_at run_at losses_from loss_at unnamed
     lost-run w z = rw (here-is w, a-name z, add-one)
 
   -- in a run
-  pub run-goes-on : part_of s p ≡ text (bytes s p.from p.size) false
-      → (losses_at s true i at ≡ losses_at s true (i + 1) p.next) × (run_at s at ≡ 32 ∷ bytes s p.from p.size ++ run_at s p.next)
+  pub run-goes-on : part_of s p ≡ text (bytes s p.value.from p.value.size) false
+      → (losses_at s true i at ≡ losses_at s true (i + 1) p.next) × (run_at s at ≡ 32 ∷ bytes s p.value.from p.value.size ++ run_at s p.next)
   unfolding losses_at run_at losses_from loss_at run_words
   run-goes-on w = (rw (here-is w, add-one), rw (here-is w))
 
-  pub run-ends-field : (p.keylen ≡ 0 → ⊥) → (losses_at s true i at ≡ losses_at s false i at) × (run_at s at ≡ [])
+  pub run-ends-field : (p.key.size ≡ 0 → ⊥) → (losses_at s true i at ≡ losses_at s false i at) × (run_at s at ≡ [])
   unfolding losses_at run_at losses_from loss_at run_words
   run-ends-field n = (rw (here-is (as-field s p n)), rw (here-is (as-field s p n)))
 
-  pub run-ends-quoted : part_of s p ≡ text (bytes s p.from p.size) true → (losses_at s true i at ≡ losses_at s false i at) × (run_at s at ≡ [])
+  pub run-ends-quoted : part_of s p ≡ text (bytes s p.value.from p.value.size) true → (losses_at s true i at ≡ losses_at s false i at) × (run_at s at ≡ [])
   unfolding losses_at run_at losses_from loss_at run_words
   run-ends-quoted w = (rw (here-is w), rw (here-is w))
 
@@ -164,36 +164,39 @@ run-start s i at bs to h = record {
   small = omega arith;
 }
 
-module _ (s : List ℕ) (first start : ℕ) (bs : List ℕ) (before i at : ℕ) (bs' : List ℕ) (to : ℕ) (r : Running s first start bs before i at bs' to) where
-  pub run-done : (losses_at s true i at ≡ losses_at s false i at) × (run_at s at ≡ []) → Ran s first start bs before bs' (record { unnamed = 1; to = to; index = i; at = at })
-  run-done h = record {
-    puts = puts-as (sym (append-nil r.past) ∙ ap (λ (x : List ℕ). r.past ++ x) (sym h.1) ∙ r.words) r.puts;
-    rest = r.rest ∙ h.0;
-    unnamed = refl;
-    stands = r.here.stands;
-    grows = r.grows;
-    index = r.index;
-    slow = r.slow;
-    small = r.small;
-  }
+pub run-done : {s : List ℕ} {first start before : ℕ} {bs bs' : List ℕ} (g : Group) → (g.unnamed ≡ true) × Running s first start bs before g.index g.at bs' g.to
+    → (losses_at s true g.index g.at ≡ losses_at s false g.index g.at) × (run_at s g.at ≡ []) → Ran s first start bs before bs' g
+run-done g inv h =
+    let r = inv.1 in
+    record {
+      puts = puts-as (sym (append-nil r.past) ∙ ap (λ (x : List ℕ). r.past ++ x) (sym h.1) ∙ r.words) r.puts;
+      rest = r.rest ∙ h.0;
+      unnamed = inv.0;
+      stands = r.here.stands;
+      grows = r.grows;
+      index = r.index;
+      slow = r.slow;
+      small = r.small;
+    }
 
-  module _ (p : Place) (sc : Scanned s at p) (k : p.keylen ≡ 0) (q : p.from ≡ p.key) where
-    pub run-turn : (bs₁ bs₂ : List ℕ) (a b : ℕ) → Puts bs' to bs₁ a (32 ∷ []) → Puts bs₁ a bs₂ b (bytes s p.from p.size) → Running s first start bs before (i + 1) p.next bs₂ b
+module _ (s : List ℕ) (first start : ℕ) (bs : List ℕ) (before i at : ℕ) (bs' : List ℕ) (to : ℕ) (r : Running s first start bs before i at bs' to) where
+  module _ (p : Place) (sc : Scanned s at p) (k : p.key.size ≡ 0) (q : p.value.from ≡ p.key.from) where
+    pub run-turn : (bs₁ bs₂ : List ℕ) (a b : ℕ) → Puts bs' to bs₁ a (32 ∷ []) → Puts bs₁ a bs₂ b (bytes s p.value.from p.value.size) → Running s first start bs before (i + 1) p.next bs₂ b
     run-turn bs₁ bs₂ a b u v =
         let h = r.here in
         let g = run-goes-on s i at p h.stands sc (as-run s p k q) in
-        let n = length-bytes s p.from p.size (omega (arith, sc.ends, sc.inside)) in
-        let w : p.size + at ≤ p.next = omega (arith, sc.starts, sc.ends) in
-        let t : b ≡ to + 1 + p.size = omega (arith, u.end, v.end, n) in
+        let n = length-bytes s p.value.from p.value.size (omega (arith, sc.ends, sc.inside)) in
+        let w : p.value.size + at ≤ p.next = omega (arith, sc.starts, sc.ends) in
+        let t : b ≡ to + 1 + p.value.size = omega (arith, u.end, v.end, n) in
         record {
           here = record {
             stands = scan-on s i at p h.stands sc;
             slow = omega (arith, h.slow, sc.grows);
             room = omega (arith, t, h.room, w, sc.grows);
           };
-          past = r.past ++ ((32 ∷ []) ++ bytes s p.from p.size);
+          past = r.past ++ ((32 ∷ []) ++ bytes s p.value.from p.value.size);
           puts = puts_then r.puts (puts_then u v);
-          words = append_assoc r.past ((32 ∷ []) ++ bytes s p.from p.size) (run_at s p.next) ∙ ap (λ (x : List ℕ). r.past ++ x) (sym g.1) ∙ r.words;
+          words = append_assoc r.past ((32 ∷ []) ++ bytes s p.value.from p.value.size) (run_at s p.next) ∙ ap (λ (x : List ℕ). r.past ++ x) (sym g.1) ∙ r.words;
           rest = r.rest ∙ g.0;
           grows = omega (arith, r.grows, sc.grows);
           index = omega (arith, r.index);
@@ -204,12 +207,11 @@ module _ (s : List ℕ) (first start : ℕ) (bs : List ℕ) (before i at : ℕ) 
 -- ---- one loss, if any
 
 module _ (s : List ℕ) (i at : ℕ) (bs : List ℕ) (to : ℕ) (h : Here s i at to) (p : Place) (sc : Scanned s at p) where
-  pub no-loss : losses_at s false i at ≡ losses_at s false (i + 1) p.next → Grouped s i at bs to bs (record { unnamed = 0; to = to; index = i + 1; at = p.next })
+  pub no-loss : losses_at s false i at ≡ losses_at s false (i + 1) p.next → Grouped s i at bs to bs (record { unnamed = false; to = to; index = i + 1; at = p.next })
   no-loss e = record {
     words = [];
     puts = puts_none bs to;
     rest = e;
-    unnamed = omega arith;
     stands = scan-on s i at p h.stands sc;
     grows = sc.grows;
     index = omega arith;
@@ -217,16 +219,15 @@ module _ (s : List ℕ) (i at : ℕ) (bs : List ℕ) (to : ℕ) (h : Here s i at
     small = omega (arith, sc.grows);
   }
 
-  pub one-loss : (bs' : List ℕ) (a u f z : ℕ) → u ≤ 1 → f + z ≤ length s → z + at ≤ p.next → Puts bs to bs' a (bytes s f z)
-      → losses_at s false i at ≡ loss_of (eqb u 1) (bytes s f z) ++ losses_at s false (i + 1) p.next
+  pub one-loss : (bs' : List ℕ) (a : ℕ) (u : Bool) (f z : ℕ) → f + z ≤ length s → z + at ≤ p.next → Puts bs to bs' a (bytes s f z)
+      → losses_at s false i at ≡ loss_of u (bytes s f z) ++ losses_at s false (i + 1) p.next
       → Grouped s i at bs to bs' (record { unnamed = u; to = a; index = i + 1; at = p.next })
-  one-loss bs' a u f z le ins w q e =
+  one-loss bs' a u f z ins w q e =
       let n = length-bytes s f z ins in
       record {
         words = bytes s f z;
         puts = q;
         rest = e;
-        unnamed = le;
         stands = scan-on s i at p h.stands sc;
         grows = sc.grows;
         index = omega arith;
@@ -243,7 +244,6 @@ module _ (s : List ℕ) (i at : ℕ) (bs : List ℕ) (to : ℕ) (h : Here s i at
         words = bytes s f z ++ run_at s p.next;
         puts = puts_then q r.puts;
         rest = e ∙ rw (r.rest, r.unnamed);
-        unnamed = omega (arith, r.unnamed);
         stands = r.stands;
         grows = omega (arith, sc.grows, r.grows);
         index = omega (arith, r.index);
@@ -284,16 +284,16 @@ lose-start s first start q l rs count bs before h = record {
 
 module _ (s : List ℕ) (first start q l : ℕ) (rs : List ℕ) (count : ℕ) (bs : List ℕ) (before i at : ℕ) (rs' : List ℕ) (k : ℕ) (bs' : List ℕ) (to : ℕ) (r : Losing s first start q l rs count bs before i at rs' k bs' to) where
   pub lose-turn : (rs₁ bs₁ : List ℕ) (g : Group) (n : ℕ) → Grouped s i at bs' to bs₁ g
-      → Puts rs' (5 * k) rs₁ (5 * n) (record_of q l g.unnamed to (g.to - to)) × ((k ≤ n) × (n ≤ k + 1)) → Losing s first start q l rs count bs before g.index g.at rs₁ n bs₁ g.to
+      → Puts rs' (5 * k) rs₁ (5 * n) (record_of q l (flag g.unnamed) to (g.to - to)) × ((k ≤ n) × (n ≤ k + 1)) → Losing s first start q l rs count bs before g.index g.at rs₁ n bs₁ g.to
   lose-turn rs₁ bs₁ g n h p = record {
     here = record {
       stands = h.stands;
       slow = omega (arith, r.here.slow, h.slow);
       room = omega (arith, r.here.room, h.small);
     };
-    past = r.past ++ loss_of (eqb g.unnamed 1) h.words;
-    lists = lists-then r.lists (lists-one q l g.unnamed h.words h.unnamed p.0 h.puts);
-    goal = append_assoc r.past (loss_of (eqb g.unnamed 1) h.words) (losses_at s false g.index g.at) ∙ ap (λ (x : List Loss). r.past ++ x) (sym h.rest) ∙ r.goal;
+    past = r.past ++ loss_of g.unnamed h.words;
+    lists = lists-then r.lists (lists-one q l g.unnamed h.words p.0 h.puts);
+    goal = append_assoc r.past (loss_of g.unnamed h.words) (losses_at s false g.index g.at) ∙ ap (λ (x : List Loss). r.past ++ x) (sym h.rest) ∙ r.goal;
     count_small = omega (arith, r.count_small, p.1.1, h.index);
     small = omega (arith, r.small, h.small);
   }
@@ -314,8 +314,8 @@ module _ (s : List ℕ) (first start q l : ℕ) (rs : List ℕ) (count : ℕ) (b
 passed_is : (s : List ℕ) (d : Lead) (f : Fields) → LeadAt s d → FieldsAt s f → passed_loss (passed_by d f) ≡ passed_over (parts 0 s)
 unfolding passed_by passed_over
 passed_is s d f ld fs =
-    let n = length-bytes s d.from d.size ld.inside in
-    rw (empty-is s PostId f.post fs.post, empty-is s Id f.id fs.id, ← empty-words (leading_id (parts 0 s)) d.size (sym (ap length ld.words) ∙ n)) (by (eqb d.size 0 || (is_empty (field_of PostId (parts 0 s)) && is_empty (field_of Id (parts 0 s)))))
+    let n = length-bytes s d.id.from d.id.size ld.inside in
+    rw (empty-is s PostId f.post fs.post, empty-is s Id f.id fs.id, ← empty-words (leading_id (parts 0 s)) d.id.size (sym (ap length ld.words) ∙ n)) (by (eqb d.id.size 0 || (is_empty (field_of PostId (parts 0 s)) && is_empty (field_of Id (parts 0 s)))))
   where
     by : (t : Bool) → passed_loss (not t) ≡ cond t [] (loss_of false (ascii "id"))
     by true = refl
@@ -326,12 +326,12 @@ passed-counts : (s : List ℕ) (d : Lead) (f : Fields) → LeadAt s d → passed
 unfolding passed_by leading leading_id
 passed-counts s d f ld e = ld.count ∙ by (is_leading (part_no 0 (parts 0 s))) refl
   where
-    some : d.size ≡ 0 → ⊥
+    some : d.id.size ≡ 0 → ⊥
     some z = true≢false (sym e ∙ rw z)
 
     by : (t : Bool) → is_leading (part_no 0 (parts 0 s)) ≡ t → ◌≡◌ {A = ℕ} (cond t 1 0) 1
     by true p = refl
-    by false p = absurd (some (let n = length-bytes s d.from d.size ld.inside in sym n ∙ ap length ld.words ∙ rw p))
+    by false p = absurd (some (let n = length-bytes s d.id.from d.id.size ld.inside in sym n ∙ ap length ld.words ∙ rw p))
 
 passed_length : (t : Bool) → length (passed_loss t) ≡ flag t
 passed_length true = refl
@@ -344,16 +344,11 @@ passed_words false = refl
 
 module _ (passed : Bool) where
   pub one-passed : passed ≡ true → (q l : ℕ) (rs : List ℕ) (k : ℕ) (bs : List ℕ) (to : ℕ) (rs' : List ℕ) (n : ℕ) (bs' : List ℕ) (e : ℕ)
-      → Puts rs (5 * k) rs' (5 * n) (record_of q l 0 to (e - to)) → Puts bs to bs' e (bytes (ascii "id") 0 2) → Lists q l rs k bs to rs' n bs' e (passed_loss passed)
-  unfolding bytes
-  one-passed p q l rs k bs to rs' n bs' e r w = rw p (lists-one q l 0 (ascii "id") (omega arith) r w)
+      → Puts rs (5 * k) rs' (5 * n) (record_of q l 0 to (e - to)) → Puts bs to bs' e (ascii "id") → Lists q l rs k bs to rs' n bs' e (passed_loss passed)
+  one-passed p q l rs k bs to rs' n bs' e r w = rw p (lists-one q l false (ascii "id") r w)
 
   pub none_passed : passed ≡ false → (q l : ℕ) (rs : List ℕ) (k : ℕ) (bs : List ℕ) (to : ℕ) → Lists q l rs k bs to rs k bs to (passed_loss passed)
   none_passed p q l rs k bs to = rw p (lists-none q l rs k bs to)
-
-pub day-is : (s : List ℕ) (f : Field) → FieldAt s Time f → is_seconds (take (f.from + f.size - f.from) (drop f.from s)) ≡ is_day (parts 0 s)
-unfolding bytes
-day-is s f h = rw (add-sub_cancel_left f.from f.size) (ap is_seconds h.words)
 
 -- ---- the whole
 

@@ -16,7 +16,7 @@ use Rattle.attribution_parts.specs.Attribution.{Loss, loss_of, run_words, losses
 use Rattle.attribution_reading.specs.Places.{Stands}
 use Rattle.attribution_reading.specs.Reads.{FieldsAt}
 
-pub record Puts (v : List ℕ) (at : ℕ) (v' : List ℕ) (at' : ℕ) (t : List ℕ) : Type 0 where
+pub record Puts {T : Type 0} (v : List T) (at : ℕ) (v' : List T) (at' : ℕ) (t : List T) : Type 0 where
   pub size : length v' ≡ length v
   pub end : at' ≡ at + length t
   pub keeps : take at v' ≡ take at v
@@ -44,19 +44,19 @@ pub record Lists (q l : ℕ) (rs : List ℕ) (k : ℕ) (bs : List ℕ) (to : ℕ
 -- ---- the losses part by part
 
 abbrev pub is_at : Field → ℕ → Bool
-is_at f i = ltb 0 f.size && eqb i f.index
+is_at f i = ltb 0 f.value.size && eqb i f.index
 
 unfoldable pub used_by : Fields → Bool → ℕ → Bool
 used_by f day i =
     is_at f.name i
     || (is_at f.post i
     || (is_at f.time i
-    || ((is_at f.id i && eqb f.post.size 0)
+    || ((is_at f.id i && eqb f.post.value.size 0)
     || (is_at f.date i && not day))))
 
 -- an id field passes over a leading id
 unfoldable pub passed_by : Lead → Fields → Bool
-passed_by l f = not (eqb l.size 0 || (eqb f.post.size 0 && eqb f.id.size 0))
+passed_by l f = not (eqb l.id.size 0 || (eqb f.post.value.size 0 && eqb f.id.value.size 0))
 
 abbrev pub passed_loss : Bool → List Loss
 passed_loss passed = cond passed (loss_of false (ascii "id")) []
@@ -83,7 +83,7 @@ pub record Here (s : List ℕ) (i at to : ℕ) : Type 0 where
 pub record Ran (s : List ℕ) (i at : ℕ) (bs : List ℕ) (to : ℕ) (bs' : List ℕ) (g : Group) : Type 0 where
   pub puts : Puts bs to bs' g.to (run_at s at)
   pub rest : losses_at s true i at ≡ losses_at s false g.index g.at
-  pub unnamed : g.unnamed ≡ 1
+  pub unnamed : g.unnamed ≡ true
   pub stands : Stands s g.index g.at
   pub grows : at ≤ g.at
   pub index : i ≤ g.index
@@ -94,8 +94,7 @@ pub record Ran (s : List ℕ) (i at : ℕ) (bs : List ℕ) (to : ℕ) (bs' : Lis
 pub record Grouped (s : List ℕ) (i at : ℕ) (bs : List ℕ) (to : ℕ) (bs' : List ℕ) (g : Group) : Type 0 where
   pub words : List ℕ
   pub puts : Puts bs to bs' g.to words
-  pub rest : losses_at s false i at ≡ loss_of (eqb g.unnamed 1) words ++ losses_at s false g.index g.at
-  pub unnamed : g.unnamed ≤ 1
+  pub rest : losses_at s false i at ≡ loss_of g.unnamed words ++ losses_at s false g.index g.at
   pub stands : Stands s g.index g.at
   pub grows : at < g.at
   pub index : i < g.index

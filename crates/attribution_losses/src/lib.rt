@@ -3,3 +3,4 @@
 
 pub mod join;
 pub mod loss;
+pub mod put;

@@ -1,12 +1,12 @@
 // The losses of an attribution: counted, and listed in lent slices.
-ghost use Rattle.std.specs.Prelude.{◌≡◌, not, ◌&&◌, [], ◌∷◌, ◌+◌, ◌-◌, ◌*◌, ◌≤◌, ◌<◌, length, eqb};
+ghost use Rattle.std.specs.Prelude.{◌≡◌, ◌+◌, ◌-◌, ◌*◌, ◌≤◌, ◌<◌, length};
 ghost use Rattle.attribution_parts.specs.Parts.{parts};
 ghost use Rattle.attribution_parts.specs.Attribution.{is_day, losses};
 ghost use Rattle.attribution_parts.specs.declared.Kind.TheVariants.{Time};
-ghost use Rattle.attribution_reading.specs.Places.{bytes};
 ghost use Rattle.attribution_reading.specs.Reads.{FieldAt};
-ghost use Rattle.attribution_losses.specs.Lists.{Puts, record_of, is_at, used_by, passed_by, passed_loss, loss_words, Here, Told, Ran, Grouped, Lists, Listed};
+ghost use Rattle.attribution_losses.specs.Lists.{Puts, flag, record_of, is_at, used_by, passed_by, passed_loss, loss_words, Here, Told, Ran, Grouped, Lists, Listed};
 
+use crate::put::put;
 use attribution_reading::facts::{Field, Fields, Lead, has_equals, read_facts};
 use attribution_reading::reader::read_part;
 use day::is_seconds;
@@ -18,96 +18,48 @@ pub struct Counts {
     pub bytes: usize,
 }
 
+// The quote that losses are of: its number, and its line.
+#[derive(Clone, Copy)]
+pub struct Quote {
+    pub number: u32,
+    pub line: u32,
+}
+
 // The bytes of a loss have been put up to `to`; the next part has this index and begins at `at`.
 #[derive(Clone, Copy)]
 pub struct Group {
-    pub unnamed: u32,
+    pub unnamed: bool,
     pub to: usize,
     pub index: usize,
     pub at: usize,
-}
-
-// Puts a byte.
-pub fn put_byte(buf: &mut [u8], at: usize, b: u8) -> usize
-    requires { at < 4294967296 }
-    ensures { Puts buf.old at buf.new result (b ∷ []) }
-{
-    if at < buf.len() {
-        buf[at] = b;
-        return at + 1;
-    }
-    at + 1
-}
-
-fn put_number(nums: &mut [u32], at: usize, x: u32) -> usize
-    requires { at < 1099511627776 }
-    ensures { Puts nums.old at nums.new result (x ∷ []) }
-{
-    if at < nums.len() {
-        nums[at] = x;
-        return at + 1;
-    }
-    at + 1
-}
-
-// Puts the bytes of a part of a source.
-pub fn put_bytes(src: &[u8], from: usize, size: usize, buf: &mut [u8], at: usize) -> usize
-    requires { (from + size ≤ length src.now) × (at + size < 4294967296) }
-    ensures { Puts buf.old at buf.new result (bytes src.now from size) }
-{
-    let mut i: usize = 0;
-    let mut to = at;
-    while i < size {
-        to = put_byte(buf, to, src[from + i]);
-        i += 1;
-    }
-    to
-}
-
-// Puts record k.
-fn put_record(
-    records: &mut [u32],
-    k: usize,
-    quote: u32,
-    line: u32,
-    unnamed: u32,
-    start: u32,
-    size: u32,
-)
-    requires { k < 4294967296 }
-    ensures { Puts records.old (5 * k) records.new (5 * (k + 1)) (quote ∷ line ∷ unnamed ∷ start ∷ size ∷ []) }
-{
-    let a = put_number(records, 5 * k, quote);
-    let b = put_number(records, a, line);
-    let c = put_number(records, b, unnamed);
-    let d = put_number(records, c, start);
-    put_number(records, d, size);
 }
 
 // Puts record k of a field whose bytes stand from `start` up to `end`, where it has any.
 fn close_loss(
     records: &mut [u32],
     k: usize,
-    quote: u32,
-    line: u32,
-    unnamed: u32,
+    quote: Quote,
+    unnamed: bool,
     start: usize,
     end: usize,
 ) -> usize
     requires { (k < 4294967296) × ((start ≤ end) × (end < 4294967296)) }
-    ensures { Puts records.old (5 * k) records.new (5 * result) (record_of quote line unnamed start (end - start)) × ((k ≤ result) × (result ≤ k + 1)) }
+    ensures { Puts records.old (5 * k) records.new (5 * result) (record_of quote.number quote.line (flag unnamed) start (end - start)) × ((k ≤ result) × (result ≤ k + 1)) }
 {
     if start == end {
         return k;
     }
-    put_record(
+    let size = end - start;
+    put(
+        &[
+            quote.number,
+            quote.line,
+            u32::from(unnamed),
+            start as u32,
+            size as u32,
+        ],
         records,
-        k,
-        quote,
-        line,
-        unnamed,
-        start as u32,
-        (end - start) as u32,
+        5 * k,
     );
     k + 1
 }
@@ -115,88 +67,43 @@ fn close_loss(
 fn is_at(f: Field, i: usize) -> bool
     ensures { result ≡ is_at f i }
 {
-    if 0 < f.size {
-        return i == f.index;
-    }
-    false
-}
-
-// Whether an id field at index i is in the caption.
-fn is_linked(id: Field, post: Field, i: usize) -> bool
-    ensures { result ≡ (is_at id i && eqb post.size 0) }
-{
-    if is_at(id, i) {
-        return post.size == 0;
-    }
-    false
-}
-
-// Whether a date field at index i is in the caption.
-fn is_shown(date: Field, day: bool, i: usize) -> bool
-    ensures { result ≡ (is_at date i && not day) }
-{
-    if is_at(date, i) {
-        return !day;
-    }
-    false
+    0 < f.value.size && i == f.index
 }
 
 // Whether the field at index i is in the caption; `day`: the time is a day.
+#[tactic(auto, unfolding(crate::specs::Lists::used_by))]
 fn is_used(f: Fields, day: bool, i: usize) -> bool
     ensures { result ≡ used_by f day i }
 {
-    if is_at(f.name, i) {
-        return true;
-    }
-    if is_at(f.post, i) {
-        return true;
-    }
-    if is_at(f.time, i) {
-        return true;
-    }
-    if is_linked(f.id, f.post, i) {
-        return true;
-    }
-    is_shown(f.date, day, i)
+    is_at(f.name, i)
+        || is_at(f.post, i)
+        || is_at(f.time, i)
+        || is_at(f.id, i) && f.post.value.size == 0
+        || is_at(f.date, i) && !day
 }
 
-// Puts the rest of a run, from part i on, each text behind a space.
+// Puts the rest of a run, from part `first` on, each text behind a space.
 fn put_run(s: &[u8], start: usize, first: usize, buf: &mut [u8], before: usize) -> Group
     requires { Here s.now first start before }
     ensures { Ran s.now first start buf.old before buf.new result }
 {
-    let mut at = start;
-    let mut i = first;
-    let mut to = before;
-    while at < s.len() {
-        let p = read_part(s, at);
-        if p.keylen != 0 {
-            return Group {
-                unnamed: 1,
-                to: to,
-                index: i,
-                at: at,
-            };
+    let mut run = Group {
+        unnamed: true,
+        to: before,
+        index: first,
+        at: start,
+    };
+    while run.at < s.len() {
+        let p = read_part(s, run.at);
+        if p.key.size != 0 || p.value.from != p.key.from {
+            return run;
         }
-        if p.from != p.key {
-            return Group {
-                unnamed: 1,
-                to: to,
-                index: i,
-                at: at,
-            };
-        }
-        let e = put_byte(buf, to, b' ');
-        to = put_bytes(s, p.from, p.size, buf, e);
-        i += 1;
-        at = p.next;
+        let e = put(b" ", buf, run.to);
+        run.to = put(p.value.of(s), buf, e);
+        run.index += 1;
+        run.at = p.next;
     }
-    Group {
-        unnamed: 1,
-        to: to,
-        index: i,
-        at: at,
-    }
+    run
 }
 
 // Puts the bytes of the loss that part i makes, if any: of a field, of a quoted text, or of the run that begins there.
@@ -213,117 +120,87 @@ fn put_group(
     ensures { Grouped s.now i at buf.old to buf.new result }
 {
     let p = read_part(s, at);
-    if p.keylen != 0 {
-        if is_used(fields, day, i) {
-            return Group {
-                unnamed: 0,
-                to: to,
-                index: i + 1,
-                at: p.next,
-            };
-        }
-        let e = put_bytes(s, p.key, p.keylen, buf, to);
-        return Group {
-            unnamed: 0,
-            to: e,
-            index: i + 1,
-            at: p.next,
-        };
-    }
-    let name = fields.name;
-    if name.size == 0 {
-        return Group {
-            unnamed: 0,
-            to: to,
-            index: i + 1,
-            at: p.next,
-        };
-    }
-    let e = put_bytes(s, p.from, p.size, buf, to);
-    if p.from == p.key {
-        return put_run(s, p.next, i + 1, buf, e);
-    }
-    Group {
-        unnamed: 1,
-        to: e,
+    let none = Group {
+        unnamed: false,
+        to,
         index: i + 1,
         at: p.next,
+    };
+    if p.key.size != 0 {
+        if is_used(fields, day, i) {
+            return none;
+        }
+        let to = put(p.key.of(s), buf, to);
+        return Group { to, ..none };
+    }
+    if fields.name.value.size == 0 {
+        return none;
+    }
+    let to = put(p.value.of(s), buf, to);
+    if p.value.from == p.key.from {
+        return put_run(s, p.next, i + 1, buf, to);
+    }
+    Group {
+        unnamed: true,
+        to,
+        ..none
     }
 }
 
-// Lists the losses from part `first` on, which begins at `start`.
+// Lists the losses from part `first` on, which begins at `start`, behind those before.
 fn put_groups(
     s: &[u8],
     start: usize,
     first: usize,
     fields: Fields,
     day: bool,
-    quote: u32,
-    line: u32,
+    quote: Quote,
     records: &mut [u32],
-    count: usize,
     loss_bytes: &mut [u8],
-    before: usize,
+    before: Counts,
 ) -> Counts
-    requires { (count + length s.now < 4294967296) × (Told s.now fields day × Here s.now first start before) }
-    ensures { Listed s.now first start quote line records.old count loss_bytes.old before records.new loss_bytes.new result }
+    requires { (before.losses + length s.now < 4294967296) × (Told s.now fields day × Here s.now first start before.bytes) }
+    ensures { Listed s.now first start quote.number quote.line records.old before.losses loss_bytes.old before.bytes records.new loss_bytes.new result }
 {
     let mut at = start;
     let mut i = first;
-    let mut k = count;
-    let mut to = before;
+    let mut listed = before;
     while at < s.len() {
-        let g = put_group(s, at, i, fields, day, loss_bytes, to);
-        k = close_loss(records, k, quote, line, g.unnamed, to, g.to);
-        to = g.to;
+        let g = put_group(s, at, i, fields, day, loss_bytes, listed.bytes);
+        listed.losses = close_loss(records, listed.losses, quote, g.unnamed, listed.bytes, g.to);
+        listed.bytes = g.to;
         i = g.index;
         at = g.at;
     }
-    Counts {
-        losses: k,
-        bytes: to,
-    }
+    listed
 }
 
 // Whether an id field passes over a leading id.
+#[tactic(auto, unfolding(crate::specs::Lists::passed_by))]
 fn is_passed(lead: Lead, fields: Fields) -> bool
     ensures { result ≡ passed_by lead fields }
 {
-    if lead.size == 0 {
-        return false;
-    }
-    let post = fields.post;
-    if post.size == 0 {
-        let id = fields.id;
-        return id.size != 0;
-    }
-    true
+    lead.id.size != 0 && (fields.post.value.size != 0 || fields.id.value.size != 0)
 }
 
-// Lists a leading id that an id field passes over.
+// Lists a leading id that an id field passes over, behind the losses before.
 fn put_passed(
     passed: bool,
-    quote: u32,
-    line: u32,
+    quote: Quote,
     records: &mut [u32],
-    k: usize,
     loss_bytes: &mut [u8],
-    at: usize,
+    before: Counts,
 ) -> Counts
-    requires { (k < 4294967295) × (at < 4294967290) }
-    ensures { Lists quote line records.old k loss_bytes.old at records.new result.losses loss_bytes.new result.bytes (passed_loss passed) }
+    requires { (before.losses < 4294967295) × (before.bytes < 4294967290) }
+    ensures { Lists quote.number quote.line records.old before.losses loss_bytes.old before.bytes records.new result.losses loss_bytes.new result.bytes (passed_loss passed) }
 {
-    if passed {
-        let e = put_bytes(b"id", 0, 2, loss_bytes, at);
-        let n = close_loss(records, k, quote, line, 0, at, e);
-        return Counts {
-            losses: n,
-            bytes: e,
-        };
+    if !passed {
+        return before;
     }
+    let bytes = put(b"id", loss_bytes, before.bytes);
     Counts {
-        losses: k,
-        bytes: at,
+        losses: close_loss(records, before.losses, quote, false, before.bytes, bytes),
+        bytes,
     }
 }
 
@@ -331,9 +208,7 @@ pub fn is_day(s: &[u8], time: Field) -> bool
     requires { FieldAt s.now Time time }
     ensures { result ≡ is_day (parts 0 s.now) }
 {
-    let from = time.from;
-    let end = from + time.size;
-    is_seconds(&s[from..end])
+    is_seconds(time.value.of(s))
 }
 
 // Lists the losses of an attribution: records from number k on, and their bytes from `at` on. What does not fit is counted, not written.
@@ -350,25 +225,22 @@ pub fn put_losses(
     requires { (k + length attribution.now < 4294967295) × (at + 2 * length attribution.now ≤ 4294967280) }
     ensures { Lists quote line records.old k loss_bytes.old at records.new result.losses loss_bytes.new result.bytes (losses attribution.now) × ((result.losses ≤ k + length attribution.now) × (result.bytes ≤ at + 2 * length attribution.now)) }
 {
+    let before = Counts {
+        losses: k,
+        bytes: at,
+    };
     if !has_equals(attribution) {
-        return Counts {
-            losses: k,
-            bytes: at,
-        };
+        return before;
     }
     let facts = read_facts(attribution);
     let fields = facts.fields;
     let lead = facts.lead;
     let day = is_day(attribution, fields.time);
-    let c = put_passed(
-        is_passed(lead, fields),
-        quote,
+    let quote = Quote {
+        number: quote,
         line,
-        records,
-        k,
-        loss_bytes,
-        at,
-    );
+    };
+    let c = put_passed(is_passed(lead, fields), quote, records, loss_bytes, before);
     put_groups(
         attribution,
         lead.next,
@@ -376,11 +248,9 @@ pub fn put_losses(
         fields,
         day,
         quote,
-        line,
         records,
-        c.losses,
         loss_bytes,
-        c.bytes,
+        c,
     )
 }
 
@@ -389,7 +259,5 @@ pub fn count_losses(attribution: &[u8]) -> Counts
     requires { length attribution.now ≤ 1073741824 }
     ensures { (result.losses ≡ length (losses attribution.now)) × (result.bytes ≡ length (loss_words (losses attribution.now))) }
 {
-    let mut records: [u32; 1] = [0; 1];
-    let mut loss_bytes: [u8; 1] = [0; 1];
-    put_losses(attribution, 0, 0, &mut records, 0, &mut loss_bytes, 0)
+    put_losses(attribution, 0, 0, &mut [], 0, &mut [], 0)
 }

@@ -17,7 +17,8 @@ impl Extent {
     // Its bytes in s.
     pub fn of<'a>(self, s: &'a [u8]) -> &'a [u8]
         requires { self.from + self.size ≤ length s.now }
-        ensures { result.now ≡ bytes s.now self.from self.size }
+        ensures words { result.now ≡ bytes s.now self.from self.size }
+        ensures size { length result.now ≡ self.size }
     {
         &s[self.from..self.from + self.size]
     }

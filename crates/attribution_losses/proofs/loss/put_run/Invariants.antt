@@ -1,10 +1,12 @@
 use Prim.Native.Nat.{◌-◌}
 use lib.ListN.{length}
+use mathlib.Core.Bool.{true}
+use mathlib.Core.Path.{◌≡◌}
 use Rattle.attribution_losses.proofs.Losing.{Running}
 use Rattle.attribution_losses.proofs.loss.put_run.Given as goal
 
-abbrev pub invariant-loop-at : goal.invariant-loop-at
-invariant-loop-at l = Running l.s l.first l.start l.initial.buf l.before l.i l.at l.buf l.to
+abbrev pub invariant-loop-run : goal.invariant-loop-run
+invariant-loop-run l = (l.run.unnamed ≡ true) × Running l.s l.first l.start l.initial.buf l.before l.run.index l.run.at l.buf l.run.to
 
-abbrev pub decreases-loop-at : goal.decreases-loop-at
-decreases-loop-at l = length l.s - l.at
+abbrev pub decreases-loop-run : goal.decreases-loop-run
+decreases-loop-run l = length l.s - l.run.at
