@@ -19,7 +19,7 @@ use Rattle.attribution_parts.specs.Parts.{parts}
 use Rattle.attribution_parts.specs.Attribution.{spaced, within, field_of, is_day, date, id, name, texts, or_else, caption_of, caption}
 use Rattle.attribution_reading.specs.Reads.{FieldAt, IdAt}
 use Rattle.attribution_reading.specs.declared.facts.Fields.{Fields}
-use Rattle.attribution_reading.specs.declared.facts.IdPlace.{IdPlace}
+use Rattle.attribution_reading.specs.declared.scan.Extent.{Extent}
 use Rattle.attribution_losses.specs.Lists.{Told}
 use Rattle.attribution_losses.proofs.Losing.{empty-is}
 use Rattle.attribution_reading.specs.Places.{bytes}
@@ -81,12 +81,12 @@ within_none x (b ∷ w) z e = let y : suc (length w) ≡ 0 = e in absurd (omega 
 -- ---- the date
 
 -- a field's value as the code cuts it out
-pub cut_out : (s : List ℕ) (k : Kind) (f : Field) → FieldAt s k f → take (f.from + f.size - f.from) (drop f.from s) ≡ field_of k (parts 0 s)
+pub cut_out : (s : List ℕ) (k : Kind) (f : Field) → FieldAt s k f → take (f.value.from + f.value.size - f.value.from) (drop f.value.from s) ≡ field_of k (parts 0 s)
 unfolding bytes
-cut_out s k f h = rw (add-sub_cancel_left f.from f.size) h.words
+cut_out s k f h = rw (add-sub_cancel_left f.value.from f.value.size) h.words
 
-value-size : (s : List ℕ) (k : Kind) (f : Field) → FieldAt s k f → length (field_of k (parts 0 s)) ≡ f.size
-value-size s k f h = sym (ap length h.words) ∙ length-bytes s f.from f.size h.inside
+value-size : (s : List ℕ) (k : Kind) (f : Field) → FieldAt s k f → length (field_of k (parts 0 s)) ≡ f.value.size
+value-size s k f h = sym (ap length h.words) ∙ length-bytes s f.value.from f.value.size h.inside
 
 day-some : (s : List ℕ) → 0 < length (day_of s)
 unfolding day_of iso
@@ -114,12 +114,12 @@ module _ (s : List ℕ) (d t : Field) (df : FieldAt s Date d) (tf : FieldAt s Ti
   abbrev shown : List ℕ
   shown = within (ascii "(") (date (parts 0 s)) (ascii ")")
 
-  pub day-shown : (b : Bool) (w : List ℕ) → b ≡ is_day (parts 0 s) → b ≡ true → w ≡ day_of (take (t.from + t.size - t.from) (drop t.from s)) ++ []
+  pub day-shown : (b : Bool) (w : List ℕ) → b ≡ is_day (parts 0 s) → b ≡ true → w ≡ day_of (take (t.value.from + t.value.size - t.value.from) (drop t.value.from s)) ++ []
       → written (ascii "(" ++ (w ++ ascii ")")) ≡ written shown
   unfolding date
   day-shown b w e p q =
       let y : is_day (parts 0 s) ≡ true = sym e ∙ p in
-      let v : w ≡ day_of (field_of Time (parts 0 s)) = q ∙ append-nil (day_of (take (t.from + t.size - t.from) (drop t.from s))) ∙ ap day_of (cut_out s Time t tf) in
+      let v : w ≡ day_of (field_of Time (parts 0 s)) = q ∙ append-nil (day_of (take (t.value.from + t.value.size - t.value.from) (drop t.value.from s))) ∙ ap day_of (cut_out s Time t tf) in
       ap written (rw (y, v) (sym (within-some (ascii "(") (day_of (field_of Time (parts 0 s))) (ascii ")") (day-some (field_of Time (parts 0 s))))))
 
   module _ (b : Bool) (e : b ≡ is_day (parts 0 s)) (p : b ≡ false) where
@@ -127,28 +127,28 @@ module _ (s : List ℕ) (d t : Field) (df : FieldAt s Date d) (tf : FieldAt s Ti
     unfolding date
     plain = let y : is_day (parts 0 s) ≡ false = sym e ∙ p in rw y
 
-    pub none-shown : d.size ≡ 0 → t.size ≡ 0 → [] ≡ written shown
+    pub none-shown : d.value.size ≡ 0 → t.value.size ≡ 0 → [] ≡ written shown
     none-shown x y =
         let n = value-size s Date d df in
         let m = value-size s Time t tf in
         sym (ap written (within_none (ascii "(") (date (parts 0 s)) (ascii ")") (ap length (plain ∙ spaced-left (field_of Date (parts 0 s)) (field_of Time (parts 0 s)) (m ∙ y)) ∙ n ∙ x)) ∙ written_none)
 
-    pub time-shown : d.size ≡ 0 → (t.size ≡ 0 → ⊥) → written (ascii "(" ++ (take (t.from + t.size - t.from) (drop t.from s) ++ ascii ")")) ≡ written shown
+    pub time-shown : d.value.size ≡ 0 → (t.value.size ≡ 0 → ⊥) → written (ascii "(" ++ (take (t.value.from + t.value.size - t.value.from) (drop t.value.from s) ++ ascii ")")) ≡ written shown
     time-shown x y =
         let n = value-size s Date d df in
         let m = value-size s Time t tf in
         let v : date (parts 0 s) ≡ field_of Time (parts 0 s) = plain ∙ spaced-right (field_of Date (parts 0 s)) (field_of Time (parts 0 s)) (n ∙ x) in
         ap written (rw (cut_out s Time t tf, v) (sym (within-some (ascii "(") (field_of Time (parts 0 s)) (ascii ")") (omega (arith, m, y)))))
 
-    pub date-shown : (d.size ≡ 0 → ⊥) → t.size ≡ 0 → written (ascii "(" ++ (take (d.from + d.size - d.from) (drop d.from s) ++ ascii ")")) ≡ written shown
+    pub date-shown : (d.value.size ≡ 0 → ⊥) → t.value.size ≡ 0 → written (ascii "(" ++ (take (d.value.from + d.value.size - d.value.from) (drop d.value.from s) ++ ascii ")")) ≡ written shown
     date-shown x y =
         let n = value-size s Date d df in
         let m = value-size s Time t tf in
         let v : date (parts 0 s) ≡ field_of Date (parts 0 s) = plain ∙ spaced-left (field_of Date (parts 0 s)) (field_of Time (parts 0 s)) (m ∙ y) in
         ap written (rw (cut_out s Date d df, v) (sym (within-some (ascii "(") (field_of Date (parts 0 s)) (ascii ")") (omega (arith, n, x)))))
 
-    pub both-shown : (d.size ≡ 0 → ⊥) → (t.size ≡ 0 → ⊥)
-        → written (ascii "(" ++ ((take (d.from + d.size - d.from) (drop d.from s) ++ (32 ∷ take (t.from + t.size - t.from) (drop t.from s))) ++ ascii ")")) ≡ written shown
+    pub both-shown : (d.value.size ≡ 0 → ⊥) → (t.value.size ≡ 0 → ⊥)
+        → written (ascii "(" ++ ((take (d.value.from + d.value.size - d.value.from) (drop d.value.from s) ++ (32 ∷ take (t.value.from + t.value.size - t.value.from) (drop t.value.from s))) ++ ascii ")")) ≡ written shown
     both-shown x y =
         let n = value-size s Date d df in
         let m = value-size s Time t tf in
@@ -187,7 +187,7 @@ an-id s f z le n =
     let m = length-bytes s f z le in
     ap (λ (x : List ℕ). (sign 35 ∷ []) ++ written x) (bytes_cut s f z) ∙ hashed-is (bytes s f z) ∙ ap written (sym (within-some (ascii "#") (bytes s f z) [] (omega (arith, m, n))))
 
-pub day-seconds : (s : List ℕ) (t : Field) → FieldAt s Time t → (b : Bool) → b ≡ is_day (parts 0 s) → b ≡ true → is_seconds (take (t.from + t.size - t.from) (drop t.from s)) ≡ true
+pub day-seconds : (s : List ℕ) (t : Field) → FieldAt s Time t → (b : Bool) → b ≡ is_day (parts 0 s) → b ≡ true → is_seconds (take (t.value.from + t.value.size - t.value.from) (drop t.value.from s)) ≡ true
 day-seconds s t h b e p = ap is_seconds (cut_out s Time t h) ∙ sym e ∙ p
 
 -- ---- pieces with a space between
@@ -224,14 +224,14 @@ day-empty d [] p = absurd (true≢false (sym p))
 day-empty [] (b ∷ t) p = refl
 day-empty (a ∷ d) (b ∷ t) p = refl
 
-module _ (s : List ℕ) (f : Fields) (day : Bool) (t : Told s f day) (e : IdPlace) (d : IdAt s e) where
+module _ (s : List ℕ) (f : Fields) (day : Bool) (t : Told s f day) (e : Extent) (d : IdAt s e) where
   abbrev date_shown : List ℕ
   date_shown = within (ascii "(") (date (parts 0 s)) (ascii ")")
 
   abbrev id_shown : List ℕ
   id_shown = within (ascii "#") (id (parts 0 s)) []
 
-  dated-empty : is_empty (date (parts 0 s)) ≡ (eqb f.date.size 0 && eqb f.time.size 0)
+  dated-empty : is_empty (date (parts 0 s)) ≡ (eqb f.date.value.size 0 && eqb f.time.value.size 0)
   unfolding date
   dated-empty = rw (empty-is s Date f.date t.fields.date, empty-is s Time f.time t.fields.time) (by (is_day (parts 0 s)) refl)
     where
@@ -239,7 +239,7 @@ module _ (s : List ℕ) (f : Fields) (day : Bool) (t : Told s f day) (e : IdPlac
       by true p = day-empty (field_of Date (parts 0 s)) (field_of Time (parts 0 s)) p
       by false p = spaced-empty (field_of Date (parts 0 s)) (field_of Time (parts 0 s))
 
-  pub dated-is : (r : Bool) → r ≡ not (eqb f.date.size 0 && eqb f.time.size 0) → r ≡ not (is_empty date_shown)
+  pub dated-is : (r : Bool) → r ≡ not (eqb f.date.value.size 0 && eqb f.time.value.size 0) → r ≡ not (is_empty date_shown)
   dated-is r p = p ∙ ap not (sym dated-empty ∙ sym (within-empty 40 [] (date (parts 0 s)) (ascii ")")))
 
   pub id-is : ltb 0 e.size ≡ not (is_empty id_shown)
@@ -247,7 +247,7 @@ module _ (s : List ℕ) (f : Fields) (day : Bool) (t : Told s f day) (e : IdPlac
       let n = length-bytes s e.from e.size d.inside in
       some_is (id (parts 0 s)) e.size (sym (ap length d.words) ∙ n) ∙ ap not (sym (within-empty 35 [] (id (parts 0 s)) []))
 
-  pub more-is : (d r : Bool) → d ≡ not (eqb f.date.size 0 && eqb f.time.size 0) → r ≡ (d || ltb 0 e.size) → r ≡ not (is_empty (spaced date_shown id_shown))
+  pub more-is : (d r : Bool) → d ≡ not (eqb f.date.value.size 0 && eqb f.time.value.size 0) → r ≡ (d || ltb 0 e.size) → r ≡ not (is_empty (spaced date_shown id_shown))
   more-is d r p q = q ∙ rw (dated-is d p, id-is) (sym (ap not (spaced-empty date_shown id_shown) ∙ not-and (is_empty date_shown) (is_empty id_shown)))
 
   pub id-shown : written (within (ascii "#") (bytes s e.from e.size) []) ≡ written id_shown
@@ -256,15 +256,15 @@ module _ (s : List ℕ) (f : Fields) (day : Bool) (t : Told s f day) (e : IdPlac
   -- ---- the name
 
   module _ (joined : List ℕ) (j : joined ≡ name_texts s) where
-    name-is : named s joined f.name.from f.name.size ≡ name (parts 0 s)
+    name-is : named s joined f.name.value.from f.name.value.size ≡ name (parts 0 s)
     unfolding named name name_texts bytes
     name-is = by (field_of Name (parts 0 s)) refl
       where
-        by : (x : List ℕ) → field_of Name (parts 0 s) ≡ x → cond (eqb f.name.size 0) joined (take f.name.size (drop f.name.from s)) ≡ or_else (field_of Name (parts 0 s)) (texts (parts 0 s))
+        by : (x : List ℕ) → field_of Name (parts 0 s) ≡ x → cond (eqb f.name.value.size 0) joined (take f.name.value.size (drop f.name.value.from s)) ≡ or_else (field_of Name (parts 0 s)) (texts (parts 0 s))
         by [] p = rw (empty-is s Name f.name t.fields.name, p, j, p)
         by (b ∷ x) p = rw (empty-is s Name f.name t.fields.name, p) (t.fields.name.words ∙ p)
 
-    pub caption-is : (w : List ℕ) (d r : Bool) → w ≡ named s joined f.name.from f.name.size → d ≡ not (eqb f.date.size 0 && eqb f.time.size 0) → r ≡ (d || ltb 0 e.size)
+    pub caption-is : (w : List ℕ) (d r : Bool) → w ≡ named s joined f.name.value.from f.name.value.size → d ≡ not (eqb f.date.value.size 0 && eqb f.time.value.size 0) → r ≡ (d || ltb 0 e.size)
         → (written w ++ written (gap (ltb 0 (length w)) r)) ++ written (spaced date_shown id_shown) ≡ written (caption s)
     unfolding caption caption_of
     caption-is w d r p q h =

@@ -1,6 +1,6 @@
 -- Laws of a whole call of `format_attribution`. Assumes nothing.
 use mathlib.Core.Path.{◌≡◌, refl, sym, ap, ◌∙◌}
-use mathlib.Core.Bool.{false}
+use mathlib.Core.Bool.{true, false, true≢false}
 use mathlib.Core.List.{List, [], ◌∷◌}
 use Prim.Native.Nat.{ℕ, ◌+◌, ◌-◌, ◌*◌, ◌≤◌, ◌<◌}
 use native.Mathlib.Nat.{sub-zero}
@@ -15,21 +15,19 @@ use Rattle.text.specs.Writes.{AppendsIn, LaidOut, cleared, padded}
 use Rattle.lending.specs.Lent.{checked}
 use Rattle.lending.specs.declared.lent.Refusal.{Refusal}
 use Rattle.lending.specs.declared.lent.Refusal.TheVariants.{NoSpace, TooManyLosses, LossBytesShort}
-use Rattle.lending.specs.declared.lent.Spans.TheVariants.{Without}
-use Rattle.lending.specs.declared.lent.Checked.{Checked}
-use Rattle.lending.specs.declared.lent.Checked.TheVariants as C
+use Rattle.lending.specs.declared.lent.Lent.{Lent}
+use Rattle.lending.specs.declared.answer.Converted.{Converted}
+use Rattle.std.specs.Prelude.{Result, Ok, Err, None, is_err, OnOk}
 use Rattle.text.proofs.Areas.{appends_in-as, stands-appended}
 use Rattle.text.proofs.Clearing.{laid-cleared}
 use Rattle.attribution_parts.specs.Attribution.{caption, losses}
 use Rattle.attribution_reading.specs.Places.{bytes}
 use Rattle.attribution_losses.specs.Captions.{name_texts}
-use Rattle.attribution_losses.specs.Lists.{Puts, loss_words, Lists}
+use Rattle.attribution_losses.specs.Lists.{Puts, records_of, loss_words, Lists}
 use Rattle.attribution_losses.proofs.Losing.{listed-counts}
-use Rattle.attribution.specs.declared.Attributed.{Attributed}
-use Rattle.attribution.specs.declared.Attributed.TheVariants.{Done, Refused}
 use Rattle.attribution.specs.declared.caption.Words.{Words}
 use Rattle.attribution.specs.Spoken.{said, Spoken}
-use Rattle.attribution.specs.Calls.{formatted, answer_by, answered, Holding, Noted, Captioned, Lost, Formatted, Numbered}
+use Rattle.attribution.specs.Calls.{formatted, answered, caption_by, words_by, Holding, Noted, Captioned, Formatted}
 use Rattle.attribution.proofs.TextLaws.{written-bytes}
 use Rattle.attribution.proofs.Fitting.{texts-within-caption}
 use Rattle.attribution.proofs.Speaking.{joined-there, spoken-there}
@@ -44,13 +42,19 @@ all-zero m k bytes l r = record { written = l.text; from = l.from; lost = r ∙ 
 
 -- ---- what has been put, with zeros behind it
 
+-- the losses have been listed: their numbers, and their bytes with zeros behind
+pub record Lost (s numbers : List ℕ) (b : ℕ) (numbers' bytes : List ℕ) : Type 0 where
+  pub records : Puts numbers 0 numbers' (5 * length (losses s)) (records_of 0 0 0 (losses s))
+  pub few : length (losses s) ≤ length s
+  pub words : bytes ≡ padded b (loss_words (losses s))
+
 put-cleared : {v v' t : List ℕ} {e : ℕ} → Puts v 0 v' e t → length t ≤ length v → cleared e v' ≡ padded (length v) t
 put-cleared {v} {v'} {t} {e} p fits =
     let n : length t ≡ e = omega (arith, p.end) in
     laid-cleared t v' e (length v) p.size n (p.text (omega (arith, n)))
 
 module _ {numbers bytes numbers₁ bytes₁ : List ℕ} {k e : ℕ} (s : List ℕ) (len : ℕ) (h : Lists 0 0 numbers 0 bytes 0 numbers₁ k bytes₁ e (losses s)) where
-  pub counted : Done len k e ≡ Done len (length (losses s)) (length (loss_words (losses s)))
+  pub counted : ◌≡◌ {A = Converted} (record { size = len; losses = k; bytes = e }) (record { size = len; losses = length (losses s); bytes = length (loss_words (losses s)) })
   counted = let n = listed-counts (losses s) h in let a : k ≡ length (losses s) = omega (arith, n.0) in let b : e ≡ length (loss_words (losses s)) = omega (arith, n.1) in rw (a, b)
 
   pub all_listed : {bytes' : List ℕ} → length (loss_words (losses s)) ≤ length bytes → k ≤ 0 + length s → bytes' ≡ cleared e bytes₁ → Lost s numbers (length bytes) numbers₁ bytes'
@@ -134,54 +138,71 @@ not-over : (a number n : ℕ) → number ≡ n → number ≤ a → ltb a n ≡ 
 not-over a number n e h = le-ltb a n (rw (← e) h)
 
 -- on a refusal no losses are noted
-none-noted : (s : List ℕ) (l : ℕ) (r : Refusal) (numbers : List ℕ) → Noted s l (Refused r) numbers
+none-noted : (s : List ℕ) (l : ℕ) (r : Refusal) (numbers : List ℕ) → Noted s l (Err r) numbers
 none-noted s l r numbers = record { room = omega arith; few = omega arith; there = refl }
 
-module _ (s : List ℕ) (m k l b number size : ℕ) (hn : number ≡ length (losses s)) (hb : size ≡ length (loss_words (losses s))) {out origins numbers bytes : List ℕ} where
-  pub too_many : (a : Attributed) → l < number → a ≡ Refused TooManyLosses → Holding [] [] m k b out origins bytes → Formatted s m k l b a out origins numbers bytes
-  unfolding formatted
-  too_many a h z g = rw z (record { answer = rw (lt-ltb l (length (losses s)) (rw (← hn) h)); holds = g; noted = none-noted s l TooManyLosses numbers })
+abbrev lent : (m k w n : ℕ) → Lent
+lent m k w n = record { out = m; origins = k; work = w; numbers = n; spans = None }
 
-  module _ (few : number ≤ l) where
-    pub bytes-short : (a : Attributed) → b < size → a ≡ Refused LossBytesShort → Holding [] [] m k b out origins bytes → Formatted s m k l b a out origins numbers bytes
-    unfolding formatted
-    bytes-short a h z g =
-        rw z (record { answer = rw (not-over l number (length (losses s)) hn few, lt-ltb b (length (loss_words (losses s))) (rw (← hb) h)); holds = g; noted = none-noted s l LossBytesShort numbers })
+module _ (s : List ℕ) (m k l b w n : ℕ) {out origins numbers bytes : List ℕ} where
+  -- refusals 1 to 4
+  pub turned-back : (r : Refusal) → checked s (lent m k w n) ≡ Err r → Formatted s m k l b w n (Err r) out origins numbers bytes
+  unfolding answered
+  turned-back r e = record { answer = rw e; holds = tt; noted = none-noted s l r numbers }
 
-    module _ (small : size ≤ b) {work₁ numbers₁ : List ℕ} {to : ℕ} (h : Captioned s m work₁ numbers₁ to) where
-      pub no-space : (a : Attributed) → m < to - length s → a ≡ Refused NoSpace → Holding [] [] m k b out origins bytes → Formatted s m k l b a out origins numbers bytes
-      unfolding formatted
-      no-space a far z g =
-          let over = caption-over s m h far in
-          rw z (record { answer = rw (not-over l number (length (losses s)) hn few, not-over b size (length (loss_words (losses s))) hb small, lt-ltb m (length (caption s)) over); holds = g; noted = none-noted s l NoSpace numbers })
+  module _ (fine : checked s (lent m k w n) ≡ Ok tt) (number size : ℕ) (hn : number ≡ length (losses s)) (hb : size ≡ length (loss_words (losses s))) where
+    pub too_many : l < number → Formatted s m k l b w n (Err TooManyLosses) out origins numbers bytes
+    unfolding answered formatted
+    too_many h = record { answer = rw (fine, lt-ltb l (length (losses s)) (rw (← hn) h)); holds = tt; noted = none-noted s l TooManyLosses numbers }
 
-      pub done : (a : Attributed) → to - length s ≤ m → m ≤ k → a ≡ Done (to - length s) (length (losses s)) (length (loss_words (losses s)))
-          → LaidOut (part (length s) to (cells work₁ numbers₁)) m k out origins → Lost s numbers₁ b numbers bytes → 5 * length s ≤ length numbers₁ → Formatted s m k l b a out origins numbers bytes
-      unfolding formatted
-      done a near mk z g p room =
-          let c = caption-fits s m h near in
-          let f = h.fits c in
-          let e : to - length s ≡ length (caption s) = omega (arith, f.0) in
-          let y = p.records.size in
-          let v = f.1 in
-          rw z (record {
-            answer = rw (not-over l number (length (losses s)) hn few, not-over b size (length (loss_words (losses s))) hb small, le-ltb m (length (caption s)) c, e);
-            holds = record {
-              written = g.text ∙ ap (λ (x : List Cell). padded m (text_of x)) v ∙ ap (padded m) (written-bytes (caption s));
-              from = g.from ∙ ap (λ (x : List Cell). padded k (origins_of x)) v ∙ no-origins k (caption s) (omega (arith, c, mk));
-              lost = p.words;
-            };
-            noted = record { room = omega (arith, y, p.few, room); few = omega (arith, hn); there = p.records.text (omega (arith, p.few, room)) };
-          })
+    module _ (few : number ≤ l) where
+      pub bytes-short : b < size → Formatted s m k l b w n (Err LossBytesShort) out origins numbers bytes
+      unfolding answered formatted
+      bytes-short h = record {
+        answer = rw (fine, not-over l number (length (losses s)) hn few, lt-ltb b (length (loss_words (losses s))) (rw (← hb) h));
+        holds = tt;
+        noted = none-noted s l LossBytesShort numbers;
+      }
+
+      module _ (small : size ≤ b) {work₁ numbers₁ : List ℕ} {to : ℕ} (h : Captioned s m work₁ numbers₁ to) where
+        pub no-space : m < to - length s → Formatted s m k l b w n (Err NoSpace) out origins numbers bytes
+        unfolding answered formatted
+        no-space far =
+            let over = caption-over s m h far in
+            record {
+              answer = rw (fine, not-over l number (length (losses s)) hn few, not-over b size (length (loss_words (losses s))) hb small, lt-ltb m (length (caption s)) over);
+              holds = tt;
+              noted = none-noted s l NoSpace numbers;
+            }
+
+        pub done : (a : Converted) → to - length s ≤ m → m ≤ k → a ≡ record { size = to - length s; losses = length (losses s); bytes = length (loss_words (losses s)) }
+            → LaidOut (part (length s) to (cells work₁ numbers₁)) m k out origins → Lost s numbers₁ b numbers bytes → 5 * length s ≤ length numbers₁
+            → Formatted s m k l b w n (Ok a) out origins numbers bytes
+        unfolding answered formatted
+        done a near mk z g p room =
+            let c = caption-fits s m h near in
+            let f = h.fits c in
+            let e : to - length s ≡ length (caption s) = omega (arith, f.0) in
+            let y = p.records.size in
+            let v = f.1 in
+            rw z (record {
+              answer = rw (fine, not-over l number (length (losses s)) hn few, not-over b size (length (loss_words (losses s))) hb small, le-ltb m (length (caption s)) c, e);
+              holds = record {
+                written = g.text ∙ ap (λ (x : List Cell). padded m (text_of x)) v ∙ ap (padded m) (written-bytes (caption s));
+                from = g.from ∙ ap (λ (x : List Cell). padded k (origins_of x)) v ∙ no-origins k (caption s) (omega (arith, c, mk));
+                lost = p.words;
+              };
+              noted = record { room = omega (arith, y, p.few, room); few = omega (arith, hn); there = p.records.text (omega (arith, p.few, room)) };
+            })
 
 -- ---- the whole call
 
-module _ (s : List ℕ) (m k l b w n : ℕ) (c : Checked) (a : Attributed) {out origins numbers bytes : List ℕ}
-    (d : c ≡ checked s (record { out = m; origins = k; work = w; numbers = n; spans = Without })) where
-  pub numbered-refused : (r : Refusal) → c ≡ C.Refused r → a ≡ Refused r → Holding [] [] m k b out origins bytes → Numbered s m k l b w n a out origins numbers bytes
-  unfolding answered
-  numbered-refused r e z g = rw z (record { answer = ap (λ (x : Checked). answer_by x s m l b) (sym e ∙ d); holds = g; noted = none-noted s l r numbers })
+module _ (s : List ℕ) (m k b : ℕ) {out origins bytes : List ℕ} where
+  pub held-nothing : (r : Result Converted Refusal) → is_err r ≡ true → Holding [] [] m k b out origins bytes → Holding (caption_by r s) (words_by r s) m k b out origins bytes
+  held-nothing (Ok a) e h = absurd (true≢false (sym e))
+  held-nothing (Err r) e h = h
 
-  pub numbered-fine : c ≡ C.Fine → Formatted s m k l b a out origins numbers bytes → Numbered s m k l b w n a out origins numbers bytes
-  unfolding answered
-  numbered-fine e f = record { answer = f.answer ∙ ap (λ (x : Checked). answer_by x s m l b) (sym e ∙ d); holds = f.holds; noted = f.noted }
+  pub held : (r : Result Converted Refusal) → is_err r ≡ false → OnOk r (Holding (caption s) (loss_words (losses s)) m k b out origins bytes)
+      → Holding (caption_by r s) (words_by r s) m k b out origins bytes
+  held (Ok a) e h = h
+  held (Err r) e h = absurd (true≢false e)

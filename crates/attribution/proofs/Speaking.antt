@@ -54,7 +54,7 @@ module _ (s : List ℕ) (w : Words) {at end : ℕ} (h : Spoken s at end w) where
   pub said-length : length (said w s) ≡ w.to.0 - w.from.0
   said-length = cut-length w.from.0 w.to.0 s h.inside
 
-  pub field-inside : (k : Kind) (f : Field) → FieldAt (said w s) k f → f.from + f.size ≤ w.to.0 - w.from.0
+  pub field-inside : (k : Kind) (f : Field) → FieldAt (said w s) k f → f.value.from + f.value.size ≤ w.to.0 - w.from.0
   field-inside k f q = let l = said-length in omega (arith, l, q.inside)
 
   module _ (f z : ℕ) (le : f + z ≤ w.to.0 - w.from.0) where

@@ -15,7 +15,8 @@ ghost use Rattle.attribution_losses.specs.Lists.{Told};
 ghost use Rattle.attribution.specs.Spoken.{said, date_and_id, Spoken, NameAt};
 
 use attribution_losses::loss::is_day;
-use attribution_reading::facts::{Field, Fields, IdPlace, read_facts};
+use attribution_reading::facts::{Field, Fields, read_facts};
+use attribution_reading::scan::Extent;
 use day::write_day;
 use text::WorkAt;
 use text::area::{put_in, put_sign_in, put_text_in, put_within};
@@ -193,20 +194,20 @@ fn put_date(
     requires { (Spoken work.old at.0 end w × (FieldAt (said w work.old) Date date × (FieldAt (said w work.old) Time time × (day ≡ is_day (parts 0 (said w work.old)))))) × ((end ≤ length work.old) × (end ≤ length numbers.old)) }
     ensures { AppendsIn work.old numbers.old end at.0 work.new numbers.new result.0 (written (within (ascii "(") (dateOf (parts 0 (said w work.old))) (ascii ")"))) }
 {
-    let df = w.from.0 + date.from;
-    let de = df + date.size;
-    let tf = w.from.0 + time.from;
-    let te = tf + time.size;
+    let df = w.from.0 + date.value.from;
+    let de = df + date.value.size;
+    let tf = w.from.0 + time.value.from;
+    let te = tf + time.value.size;
     if day {
         return put_day(work, numbers, tf, te, end, at);
     }
-    if date.size == 0 {
-        if time.size == 0 {
+    if date.value.size == 0 {
+        if time.value.size == 0 {
             return at;
         }
         return put_bracketed_within(work, numbers, tf, te, end, at);
     }
-    if time.size == 0 {
+    if time.value.size == 0 {
         return put_bracketed_within(work, numbers, df, de, end, at);
     }
     put_both(work, numbers, df, de, tf, te, end, at)
@@ -234,10 +235,10 @@ fn put_id(
 }
 
 fn is_dated(date: Field, time: Field) -> bool
-    ensures { result ≡ not (eqb date.size 0 && eqb time.size 0) }
+    ensures { result ≡ not (eqb date.value.size 0 && eqb time.value.size 0) }
 {
-    if date.size == 0 {
-        return time.size != 0;
+    if date.value.size == 0 {
+        return time.value.size != 0;
     }
     true
 }
@@ -258,7 +259,7 @@ fn put_rest(
     w: Words,
     fields: Fields,
     day: bool,
-    id: IdPlace,
+    id: Extent,
     end: usize,
     at: WorkAt,
 ) -> WorkAt
@@ -277,7 +278,7 @@ fn put_pieces(
     w: Words,
     fields: Fields,
     day: bool,
-    id: IdPlace,
+    id: Extent,
     end: usize,
     at: WorkAt,
 ) -> WorkAt
@@ -286,7 +287,7 @@ fn put_pieces(
 {
     let f = fields.name;
     let more = has_more(is_dated(fields.date, fields.time), id.size);
-    let words = name_at(&work[..], w, f.from, f.size);
+    let words = name_at(&work[..], w, f.value.from, f.value.size);
     let i = words.from.0;
     let j = words.to.0;
     let n = j - i;
