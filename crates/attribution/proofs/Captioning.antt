@@ -7,7 +7,7 @@ use native.Mathlib.Nat.{add-sub_cancel_left}
 use native.Mathlib.Omega.{arith}
 use lib.Dec.{eqb, ltb}
 use lib.ListN.{length, take, drop, length-append}
-use borrow.Author.Tests.{lt-ltb}
+use borrow.Author.Tests.{lt-ltb, le-ltb, ltb-true, ltb-false}
 use Rattle.text.specs.Ascii.{inside, ascii, is_empty}
 use Rattle.text.specs.Blanks.{computes as blanks_compute}
 use Rattle.text.specs.Cells.{Cell, cell, sign, written, cells_from}
@@ -55,11 +55,19 @@ closed_is w = written-append w 41 [] (omega arith) ∙ ap (λ (l : List Cell). w
 pub bracketed-is : (w : List ℕ) → ((sign 40 ∷ []) ++ written w) ++ (sign 41 ∷ []) ≡ written (ascii "(" ++ (w ++ ascii ")"))
 bracketed-is w = sym (open_is (w ++ (41 ∷ [])) ∙ ap (λ (l : List Cell). sign 40 ∷ l) (closed_is w))
 
-pub second_is : (w : List ℕ) → ((cell 32 1 ∷ []) ++ written w) ++ (sign 41 ∷ []) ≡ written (32 ∷ w ++ ascii ")")
+second_is : (w : List ℕ) → ((cell 32 1 ∷ []) ++ written w) ++ (sign 41 ∷ []) ≡ written (32 ∷ w ++ ascii ")")
 second_is w = sym (space-is (w ++ (41 ∷ [])) ∙ ap (λ (l : List Cell). cell 32 1 ∷ l) (closed_is w))
 
-pub both_is : (d t : List ℕ) → ((sign 40 ∷ []) ++ written d) ++ written (32 ∷ t ++ ascii ")") ≡ written (ascii "(" ++ ((d ++ (32 ∷ t)) ++ ascii ")"))
+both_is : (d t : List ℕ) → ((sign 40 ∷ []) ++ written d) ++ written (32 ∷ t ++ ascii ")") ≡ written (ascii "(" ++ ((d ++ (32 ∷ t)) ++ ascii ")"))
 both_is d t = sym (open_is ((d ++ (32 ∷ t)) ++ (41 ∷ [])) ∙ ap (λ (l : List Cell). sign 40 ∷ l) (ap written (append_assoc d (32 ∷ t) (41 ∷ [])) ∙ written-append d 32 (t ++ (41 ∷ [])) (omega arith)))
+
+-- a bracket, a value, a space, a value and a bracket, one behind another
+pub both-put : (d t : List ℕ) → ((((sign 40 ∷ []) ++ written d) ++ (cell 32 1 ∷ [])) ++ written t) ++ (sign 41 ∷ []) ≡ written (ascii "(" ++ ((d ++ (32 ∷ t)) ++ ascii ")"))
+both-put d t =
+    let a : List Cell = (sign 40 ∷ []) ++ written d in
+    let b : List Cell = cell 32 1 ∷ [] in
+    let e : List Cell = sign 41 ∷ [] in
+    append_assoc (a ++ b) (written t) e ∙ append_assoc a b (written t ++ e) ∙ ap (λ (x : List Cell). a ++ x) (sym (append_assoc b (written t) e) ∙ second_is t) ∙ both_is d t
 
 pub hashed-is : (w : List ℕ) → (sign 35 ∷ []) ++ written w ≡ written (35 ∷ (w ++ []))
 hashed-is w = sym (hash-is (w ++ []) ∙ ap (λ (x : List ℕ). sign 35 ∷ written x) (append-nil w))
@@ -159,20 +167,13 @@ module _ (s : List ℕ) (d t : Field) (df : FieldAt s Date d) (tf : FieldAt s Ti
 -- ---- gaps and the id
 
 module _ (left right : Bool) where
-  pub gap-written : left ≡ true → right ≡ true → cell 32 1 ∷ [] ≡ written (gap left right)
-  gap-written p q = rw (p, q) gap_is
-
-  pub gap-right : right ≡ false → [] ≡ written (gap left right)
+  pub gap-written : (left && right) ≡ true → cell 32 1 ∷ [] ≡ written (gap left right)
   unfolding gap
-  gap-right q = rw q (by left)
-    where
-      by : (t : Bool) → [] ≡ written (cond (t && false) (32 ∷ []) [])
-      by true = sym written_none
-      by false = sym written_none
+  gap-written p = gap_is ∙ rw p
 
-  pub gap-left : left ≡ false → [] ≡ written (gap left right)
+  pub gap-none : (left && right) ≡ false → [] ≡ written (gap left right)
   unfolding gap
-  gap-left p = rw p (sym written_none)
+  gap-none p = rw p (sym written_none)
 
 pub bytes_cut : (s : List ℕ) (f z : ℕ) → take (f + z - f) (drop f s) ≡ bytes s f z
 unfolding bytes
@@ -201,6 +202,14 @@ spaced-written (a ∷ x) (b ∷ y) l r p q =
     ∙ ap (λ (l : List Cell). written (a ∷ x) ++ l) (ap (λ (l : List Cell). l ++ written (b ∷ y)) (space-is [] ∙ ap (λ (l : List Cell). cell 32 1 ∷ l) written_none) ∙ sym (space-is (b ∷ y)))
     ∙ sym (written-append (a ∷ x) 32 (b ∷ y) (omega arith)))
 
+-- a part that is not empty
+pub ltb-length : (i j n : ℕ) → n ≡ j - i → ltb i j ≡ ltb 0 n
+ltb-length i j n e = by (ltb i j) refl
+  where
+    by : (t : Bool) → ltb i j ≡ t → t ≡ ltb 0 n
+    by true p = let h : i < j = ltb-true i j p in sym (lt-ltb 0 n (omega (arith, h, e)))
+    by false p = let h : j ≤ i = ltb-false i j p in sym (le-ltb 0 n (omega (arith, h, e)))
+
 some_is : (w : List ℕ) (n : ℕ) → length w ≡ n → ltb 0 n ≡ not (is_empty w)
 some_is [] n e = rw (← e)
 some_is (b ∷ w) n e = lt-ltb 0 n (omega (arith, e))
@@ -214,7 +223,7 @@ within-empty : (c : ℕ) (x w z : List ℕ) → is_empty (within (c ∷ x) w z) 
 within-empty c x [] z = refl
 within-empty c x (b ∷ w) z = refl
 
-not-and : (a b : Bool) → not (a && b) ≡ (not a || not b)
+pub not-and : (a b : Bool) → not (a && b) ≡ (not a || not b)
 not-and true b = refl
 not-and false b = refl
 

@@ -1,5 +1,5 @@
 -- Laws of an attribution that stands in the slices which its caption is written into. Assumes nothing.
-use mathlib.Core.Path.{◌≡◌, sym, ap, ◌∙◌}
+use mathlib.Core.Path.{◌≡◌, sym, ap, subst, ◌∙◌}
 use Prim.Native.Nat.{ℕ, ◌+◌, ◌-◌, ◌≤◌}
 use native.Mathlib.Nat.{add-sub_cancel_left, le_refl}
 use native.Mathlib.Omega.{arith}
@@ -9,6 +9,8 @@ use lib.Seq.{take-take, take-add, drop-drop, drop_at, length-take-le}
 use borrow.Author.Tests.{eq-eqb, ne_eqb}
 use Rattle.text.specs.Cells.{Cell}
 use Rattle.text.specs.Writes.{AppendsIn, Apart, cut}
+use Rattle.text.specs.Writers.{Wrote}
+use Rattle.text.specs.declared.writer.Writer.{Writer}
 use Rattle.text.proofs.Areas.{drop-take, apart-before, apart-on, apart-cut}
 use Rattle.attribution_losses.specs.Captions.{named, name_texts}
 use Rattle.attribution_losses.specs.Lists.{Puts}
@@ -47,6 +49,14 @@ module _ {s ns s' ns' : List ℕ} {at at' end : ℕ} {t : List Cell} {w : Words}
     joined-apart = apart-on h.joined-apart p.appends.grows;
     joins = apart-cut w.joined.0 w.past.0 h.joined-apart p ∙ h.joins ∙ ap name_texts (sym said-on);
   }
+
+-- the same behind what a writer leaves
+module _ {v v' : Writer} {t : List Cell} {w : Words} (p : Wrote v v' t) (h : Spoken v.bytes.now v.at.0 v.end w) where
+  pub said-after : said w v'.bytes.now ≡ said w v.bytes.now
+  said-after = said-on p.text h
+
+  pub spoken-after : Spoken v'.bytes.now v'.at.0 v'.end w
+  spoken-after = subst (λ (end : ℕ). Spoken v'.bytes.now v'.at.0 end w) (sym p.same.end) (spoken-on p.text h p.same.bytes-size)
 
 -- ---- a part of what is said
 

@@ -1,9 +1,10 @@
 // The caption of an attribution: name, date and id. The attribution stands in the pair of slices that the caption is written into, with its joined
-// texts; both before or behind the area from a place up to `end`.
+// texts; both before or behind the writer's area.
 ghost use Rattle.std.specs.Prelude.{◌≡◌, true, not, ◌&&◌, ◌||◌, eqb, ltb, [], ◌∷◌, ◌++◌, ◌+◌, ◌-◌, ◌≤◌, length};
 ghost use Rattle.text.specs.Ascii.{ascii};
 ghost use Rattle.text.specs.Cells.{written};
-ghost use Rattle.text.specs.Writes.{AppendsIn, Apart, cut};
+ghost use Rattle.text.specs.Writes.{Apart, cut};
+ghost use Rattle.text.specs.Writers.{Wrote};
 ghost use Rattle.day.specs.Day.{is_seconds, day_of};
 ghost use Rattle.attribution_parts.specs.declared.Kind.TheVariants.{Date, Time};
 ghost use Rattle.attribution_parts.specs.Parts.{parts};
@@ -19,8 +20,7 @@ use attribution_reading::facts::{Field, Fields, read_facts};
 use attribution_reading::scan::Extent;
 use day::write_day;
 use text::WorkAt;
-use text::area::{put_in, put_sign_in, put_text_in, put_within};
-use text::cell::RULE_BLANK;
+use text::writer::Writer;
 
 // Where an attribution stands, and its joined texts.
 #[derive(Clone, Copy)]
@@ -74,238 +74,129 @@ fn name_at(work: &[u8], w: Words, from: usize, size: usize) -> NamePlace
 }
 
 // Appends a space between two pieces, where neither is empty.
-fn put_gap(
-    left: bool,
-    right: bool,
-    work: &mut [u8],
-    numbers: &mut [u32],
-    end: usize,
-    at: WorkAt,
-) -> WorkAt
-    requires { (end ≤ length work.old) × (end ≤ length numbers.old) }
-    ensures { AppendsIn work.old numbers.old end at.0 work.new numbers.new result.0 (written (gap left right)) }
+fn put_gap(w: &mut Writer<'_>, left: bool, right: bool)
+    ensures { Wrote w.old w.new (written (gap left right)) }
 {
-    if left {
-        if right {
-            return put_in(work, numbers, end, at, b' ', RULE_BLANK);
-        }
+    if left & right {
+        w.put_space();
     }
-    at
 }
 
 // Appends a text in brackets.
-fn put_bracketed(
-    words: &[u8],
-    work: &mut [u8],
-    numbers: &mut [u32],
-    end: usize,
-    at: WorkAt,
-) -> WorkAt
-    requires { (end ≤ length work.old) × (end ≤ length numbers.old) }
-    ensures { AppendsIn work.old numbers.old end at.0 work.new numbers.new result.0 (written (ascii "(" ++ (words.now ++ ascii ")"))) }
+fn put_bracketed(w: &mut Writer<'_>, text: &[u8])
+    ensures { Wrote w.old w.new (written (ascii "(" ++ (text.now ++ ascii ")"))) }
 {
-    let a = put_sign_in(work, numbers, end, at, b'(');
-    let b = put_text_in(words, work, numbers, end, a);
-    put_sign_in(work, numbers, end, b, b')')
+    w.put_sign(b'(');
+    w.put_text(text);
+    w.put_sign(b')');
 }
 
 // Appends the bytes from i up to j in brackets.
-fn put_bracketed_within(
-    work: &mut [u8],
-    numbers: &mut [u32],
-    i: usize,
-    j: usize,
-    end: usize,
-    at: WorkAt,
-) -> WorkAt
-    requires { ((j ≤ length work.old) × Apart i j at.0 end) × ((end ≤ length work.old) × (end ≤ length numbers.old)) }
-    ensures { AppendsIn work.old numbers.old end at.0 work.new numbers.new result.0 (written (ascii "(" ++ (cut i j work.old ++ ascii ")"))) }
+fn put_bracketed_within(w: &mut Writer<'_>, i: usize, j: usize)
+    requires { (j ≤ length w.old.bytes.now) × Apart i j w.old.at.0 w.old.end }
+    ensures { Wrote w.old w.new (written (ascii "(" ++ (cut i j w.old.bytes.now ++ ascii ")"))) }
 {
-    let a = put_sign_in(work, numbers, end, at, b'(');
-    let b = put_within(work, numbers, i, j, end, a);
-    put_sign_in(work, numbers, end, b, b')')
-}
-
-// Appends a space, the bytes from i up to j and a closing bracket.
-fn put_second(
-    work: &mut [u8],
-    numbers: &mut [u32],
-    i: usize,
-    j: usize,
-    end: usize,
-    at: WorkAt,
-) -> WorkAt
-    requires { ((j ≤ length work.old) × Apart i j at.0 end) × ((end ≤ length work.old) × (end ≤ length numbers.old)) }
-    ensures { AppendsIn work.old numbers.old end at.0 work.new numbers.new result.0 (written (32 ∷ cut i j work.old ++ ascii ")")) }
-{
-    let a = put_in(work, numbers, end, at, b' ', RULE_BLANK);
-    let b = put_within(work, numbers, i, j, end, a);
-    put_sign_in(work, numbers, end, b, b')')
+    w.put_sign(b'(');
+    w.put_within(i, j);
+    w.put_sign(b')');
 }
 
 // Appends the bytes from i up to j and those from k up to l in brackets, a space between them.
-fn put_both(
-    work: &mut [u8],
-    numbers: &mut [u32],
-    i: usize,
-    j: usize,
-    k: usize,
-    l: usize,
-    end: usize,
-    at: WorkAt,
-) -> WorkAt
-    requires { (((j ≤ length work.old) × Apart i j at.0 end) × ((l ≤ length work.old) × Apart k l at.0 end)) × ((end ≤ length work.old) × (end ≤ length numbers.old)) }
-    ensures { AppendsIn work.old numbers.old end at.0 work.new numbers.new result.0 (written (ascii "(" ++ ((cut i j work.old ++ (32 ∷ cut k l work.old)) ++ ascii ")"))) }
+fn put_both(w: &mut Writer<'_>, i: usize, j: usize, k: usize, l: usize)
+    requires { ((j ≤ length w.old.bytes.now) × Apart i j w.old.at.0 w.old.end) × ((l ≤ length w.old.bytes.now) × Apart k l w.old.at.0 w.old.end) }
+    ensures { Wrote w.old w.new (written (ascii "(" ++ ((cut i j w.old.bytes.now ++ (32 ∷ cut k l w.old.bytes.now)) ++ ascii ")"))) }
 {
-    let a = put_sign_in(work, numbers, end, at, b'(');
-    let b = put_within(work, numbers, i, j, end, a);
-    put_second(work, numbers, k, l, end, b)
+    w.put_sign(b'(');
+    w.put_within(i, j);
+    w.put_space();
+    w.put_within(k, l);
+    w.put_sign(b')');
 }
 
 // Appends the day of the seconds from i up to j in brackets.
-fn put_day(
-    work: &mut [u8],
-    numbers: &mut [u32],
-    i: usize,
-    j: usize,
-    end: usize,
-    at: WorkAt,
-) -> WorkAt
-    requires { (((i ≤ j) × (j ≤ length work.old)) × (is_seconds (cut i j work.old) ≡ true)) × ((end ≤ length work.old) × (end ≤ length numbers.old)) }
-    ensures { AppendsIn work.old numbers.old end at.0 work.new numbers.new result.0 (written (ascii "(" ++ (day_of (cut i j work.old) ++ ascii ")"))) }
+fn put_day(w: &mut Writer<'_>, i: usize, j: usize)
+    requires { ((i ≤ j) × (j ≤ length w.old.bytes.now)) × (is_seconds (cut i j w.old.bytes.now) ≡ true) }
+    ensures { Wrote w.old w.new (written (ascii "(" ++ (day_of (cut i j w.old.bytes.now) ++ ascii ")"))) }
 {
-    let mut ten: [u8; 10] = [0; 10];
-    let memory = &work[..];
-    write_day(&memory[i..j], &mut ten);
-    put_bracketed(&ten, work, numbers, end, at)
+    let mut ten = [0u8; 10];
+    write_day(&w.source()[i..j], &mut ten);
+    put_bracketed(w, &ten);
 }
 
 // Appends the date of the caption.
-fn put_date(
-    work: &mut [u8],
-    numbers: &mut [u32],
-    w: Words,
-    date: Field,
-    time: Field,
-    day: bool,
-    end: usize,
-    at: WorkAt,
-) -> WorkAt
-    requires { (Spoken work.old at.0 end w × (FieldAt (said w work.old) Date date × (FieldAt (said w work.old) Time time × (day ≡ is_day (parts 0 (said w work.old)))))) × ((end ≤ length work.old) × (end ≤ length numbers.old)) }
-    ensures { AppendsIn work.old numbers.old end at.0 work.new numbers.new result.0 (written (within (ascii "(") (dateOf (parts 0 (said w work.old))) (ascii ")"))) }
+fn put_date(w: &mut Writer<'_>, words: Words, date: Field, time: Field, day: bool)
+    requires { Spoken w.old.bytes.now w.old.at.0 w.old.end words × (FieldAt (said words w.old.bytes.now) Date date × (FieldAt (said words w.old.bytes.now) Time time × (day ≡ is_day (parts 0 (said words w.old.bytes.now))))) }
+    ensures { Wrote w.old w.new (written (within (ascii "(") (dateOf (parts 0 (said words w.old.bytes.now))) (ascii ")"))) }
 {
-    let df = w.from.0 + date.value.from;
+    let df = words.from.0 + date.value.from;
     let de = df + date.value.size;
-    let tf = w.from.0 + time.value.from;
+    let tf = words.from.0 + time.value.from;
     let te = tf + time.value.size;
     if day {
-        return put_day(work, numbers, tf, te, end, at);
-    }
-    if date.value.size == 0 {
-        if time.value.size == 0 {
-            return at;
+        put_day(w, tf, te);
+    } else if date.value.size == 0 {
+        if time.value.size != 0 {
+            put_bracketed_within(w, tf, te);
         }
-        return put_bracketed_within(work, numbers, tf, te, end, at);
+    } else if time.value.size == 0 {
+        put_bracketed_within(w, df, de);
+    } else {
+        put_both(w, df, de, tf, te);
     }
-    if time.value.size == 0 {
-        return put_bracketed_within(work, numbers, df, de, end, at);
-    }
-    put_both(work, numbers, df, de, tf, te, end, at)
 }
 
 // Appends the id of the caption.
-fn put_id(
-    work: &mut [u8],
-    numbers: &mut [u32],
-    w: Words,
-    from: usize,
-    size: usize,
-    end: usize,
-    at: WorkAt,
-) -> WorkAt
-    requires { (Spoken work.old at.0 end w × (from + size ≤ w.to.0 - w.from.0)) × ((end ≤ length work.old) × (end ≤ length numbers.old)) }
-    ensures { AppendsIn work.old numbers.old end at.0 work.new numbers.new result.0 (written (within (ascii "#") (bytes (said w work.old) from size) [])) }
+fn put_id(w: &mut Writer<'_>, words: Words, from: usize, size: usize)
+    requires { Spoken w.old.bytes.now w.old.at.0 w.old.end words × (from + size ≤ words.to.0 - words.from.0) }
+    ensures { Wrote w.old w.new (written (within (ascii "#") (bytes (said words w.old.bytes.now) from size) [])) }
 {
     if size == 0 {
-        return at;
+        return;
     }
-    let i = w.from.0 + from;
-    let a = put_sign_in(work, numbers, end, at, b'#');
-    put_within(work, numbers, i, i + size, end, a)
+    let i = words.from.0 + from;
+    w.put_sign(b'#');
+    w.put_within(i, i + size);
 }
 
 fn is_dated(date: Field, time: Field) -> bool
     ensures { result ≡ not (eqb date.value.size 0 && eqb time.value.size 0) }
 {
-    if date.value.size == 0 {
-        return time.value.size != 0;
-    }
-    true
-}
-
-fn has_more(dated: bool, size: usize) -> bool
-    ensures { result ≡ (dated || ltb 0 size) }
-{
-    if dated {
-        return true;
-    }
-    0 < size
+    (date.value.size != 0) | (time.value.size != 0)
 }
 
 // Appends the date and the id.
-fn put_rest(
-    work: &mut [u8],
-    numbers: &mut [u32],
-    w: Words,
-    fields: Fields,
-    day: bool,
-    id: Extent,
-    end: usize,
-    at: WorkAt,
-) -> WorkAt
-    requires { (Spoken work.old at.0 end w × (Told (said w work.old) fields day × IdAt (said w work.old) id)) × ((end ≤ length work.old) × (end ≤ length numbers.old)) }
-    ensures { AppendsIn work.old numbers.old end at.0 work.new numbers.new result.0 (written (date_and_id (parts 0 (said w work.old)))) }
+fn put_rest(w: &mut Writer<'_>, words: Words, fields: Fields, day: bool, id: Extent)
+    requires { Spoken w.old.bytes.now w.old.at.0 w.old.end words × (Told (said words w.old.bytes.now) fields day × IdAt (said words w.old.bytes.now) id) }
+    ensures { Wrote w.old w.new (written (date_and_id (parts 0 (said words w.old.bytes.now)))) }
 {
-    let a = put_date(work, numbers, w, fields.date, fields.time, day, end, at);
-    let dated = is_dated(fields.date, fields.time);
-    let b = put_gap(dated, 0 < id.size, work, numbers, end, a);
-    put_id(work, numbers, w, id.from, id.size, end, b)
+    put_date(w, words, fields.date, fields.time, day);
+    put_gap(w, is_dated(fields.date, fields.time), 0 < id.size);
+    put_id(w, words, id.from, id.size);
 }
 
-fn put_pieces(
-    work: &mut [u8],
-    numbers: &mut [u32],
-    w: Words,
-    fields: Fields,
-    day: bool,
-    id: Extent,
-    end: usize,
-    at: WorkAt,
-) -> WorkAt
-    requires { (Spoken work.old at.0 end w × (Told (said w work.old) fields day × IdAt (said w work.old) id)) × ((end ≤ length work.old) × (end ≤ length numbers.old)) }
-    ensures { AppendsIn work.old numbers.old end at.0 work.new numbers.new result.0 (written (caption (said w work.old))) }
+fn put_pieces(w: &mut Writer<'_>, words: Words, fields: Fields, day: bool, id: Extent)
+    requires { Spoken w.old.bytes.now w.old.at.0 w.old.end words × (Told (said words w.old.bytes.now) fields day × IdAt (said words w.old.bytes.now) id) }
+    ensures { Wrote w.old w.new (written (caption (said words w.old.bytes.now))) }
 {
-    let f = fields.name;
-    let more = has_more(is_dated(fields.date, fields.time), id.size);
-    let words = name_at(&work[..], w, f.value.from, f.value.size);
-    let i = words.from.0;
-    let j = words.to.0;
-    let n = j - i;
-    let a = put_within(work, numbers, i, j, end, at);
-    let b = put_gap(0 < n, more, work, numbers, end, a);
-    put_rest(work, numbers, w, fields, day, id, end, b)
+    let name = name_at(
+        w.source(),
+        words,
+        fields.name.value.from,
+        fields.name.value.size,
+    );
+    let more = is_dated(fields.date, fields.time) | (0 < id.size);
+    w.put_within(name.from.0, name.to.0);
+    put_gap(w, name.from.0 < name.to.0, more);
+    put_rest(w, words, fields, day, id);
 }
 
 // Appends the caption of an attribution.
-pub fn put_caption(work: &mut [u8], numbers: &mut [u32], w: Words, end: usize, at: WorkAt) -> WorkAt
-    requires { Spoken work.old at.0 end w × ((end ≤ length work.old) × (end ≤ length numbers.old)) }
-    ensures { AppendsIn work.old numbers.old end at.0 work.new numbers.new result.0 (written (caption (said w work.old))) }
+pub fn put_caption(w: &mut Writer<'_>, words: Words)
+    requires { Spoken w.old.bytes.now w.old.at.0 w.old.end words }
+    ensures { Wrote w.old w.new (written (caption (said words w.old.bytes.now))) }
 {
-    let a = w.from.0;
-    let b = w.to.0;
-    let memory = &work[..];
-    let facts = read_facts(&memory[a..b]);
-    let fields = facts.fields;
-    let day = is_day(&memory[a..b], fields.time);
-    put_pieces(work, numbers, w, fields, day, facts.id, end, at)
+    let text = &w.source()[words.from.0..words.to.0];
+    let facts = read_facts(text);
+    let day = is_day(text, facts.fields.time);
+    put_pieces(w, words, facts.fields, day, facts.id);
 }

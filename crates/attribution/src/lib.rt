@@ -14,6 +14,7 @@ use losses::{Loss, fill};
 use text::WorkAt;
 use text::source::set_source;
 use text::write::{lay_nothing, lay_part};
+use text::writer::Writer;
 
 pub mod caption;
 
@@ -36,7 +37,14 @@ fn set_caption(text: &[u8], m: usize, work: &mut [u8], numbers: &mut [u32]) -> W
         joined: WorkAt(end),
         past: WorkAt(past),
     };
-    put_caption(work, numbers, words, end, WorkAt(n))
+    let mut w = Writer {
+        bytes: work,
+        numbers,
+        at: WorkAt(n),
+        end,
+    };
+    put_caption(&mut w, words);
+    w.at
 }
 
 // The caption of a text, its losses as plain numbers in front of `numbers`, and their bytes, where `lent` records are lent. Where the call is turned back, what is

@@ -1,3 +1,4 @@
+use borrow.Author.Rules.{rules}
 use native.Mathlib.Omega.{arith}
 use mathlib.Core.Path.{refl}
 use Rattle.attribution.proofs.Formatting.{words-spoken, not-fitting, caption-stands}
@@ -16,12 +17,11 @@ put_caption-requires c = let x = c.args in
     let s = c.set_source in
     let z = s.auto.work in
     let j = c.join_texts-past.ensures in
-    (words-spoken x.text.now s.ensures (omega arith) (omega (arith, p.1.0, z)) j c.if-work-past.false, (omega (arith, j.size, z, p.1.0), omega (arith, p.1.1)))
+    words-spoken x.text.now s.ensures (omega arith) (omega (arith, p.1.0, z)) j c.if-work-past.false
 
 pub returns : goal.returns
 returns c = let x = c.args in
     let p = c.requires in
     let s = c.set_source in
     let z = s.auto.work in
-    let q = c.put_caption in
-    caption-stands x.text.now s.ensures (omega arith) (omega (arith, p.1.0, z)) c.join_texts-past.ensures x.m refl (omega (arith, p.1.1)) q.auto.work q.auto.numbers q.ensures
+    caption-stands x.text.now s.ensures (omega arith) (omega (arith, p.1.0, z)) c.join_texts-past.ensures x.m {ns = x.numbers.now} refl (omega (arith, p.1.1)) (search rules) (search rules) (search rules)

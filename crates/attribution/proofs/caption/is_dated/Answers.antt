@@ -1,8 +1,6 @@
-use borrow.Author.Tests.{eq-eqb, ne_eqb}
+use mathlib.Core.Path.{sym}
+use Rattle.attribution.proofs.Captioning.{not-and}
 use Rattle.attribution.proofs.caption.is_dated.Goals as goal
 
-pub returns-then-date-eq0 : goal.returns-then-date-eq0
-returns-then-date-eq0 c = let a = c.args in rw (eq-eqb a.date.value.size 0 c.if-date-eq0.true)
-
 pub returns : goal.returns
-returns c = let a = c.args in rw (ne_eqb a.date.value.size 0 c.if-date-eq0.false)
+returns c = sym (not-and _ _)

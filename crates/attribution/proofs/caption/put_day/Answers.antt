@@ -3,7 +3,7 @@ use Prim.Native.Nat.{ℕ}
 use mathlib.Core.List.{List, ◌++◌}
 use Rattle.day.specs.Day.{day_of}
 use Rattle.text.specs.Writes.{cut}
-use Rattle.text.proofs.Areas.{appends_in-as}
+use Rattle.text.proofs.Writers.{wrote-as}
 use Rattle.text.specs.Cells.{written}
 use Rattle.text.specs.Ascii.{ascii}
 use mathlib.Core.List.{append-nil}
@@ -11,4 +11,4 @@ use Rattle.attribution.proofs.caption.put_day.Goals as goal
 
 pub returns : goal.returns
 returns c = let a = c.args in
-    appends_in-as (ap (λ (x : List ℕ). written (ascii "(" ++ (x ++ ascii ")"))) (c.write_day.ensures ∙ append-nil (day_of (cut a.i a.j a.work.now)))) c.put_bracketed.ensures
+    wrote-as (ap (λ (x : List ℕ). written (ascii "(" ++ (x ++ ascii ")"))) (rw c.source.ensures at c.write_day.ensures ∙ append-nil (day_of (cut a.i a.j a.w.now.bytes.now)))) c.put_bracketed.ensures
