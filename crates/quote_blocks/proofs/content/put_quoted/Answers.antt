@@ -1,13 +1,16 @@
 use native.Mathlib.Omega.{arith}
+use Rattle.text.proofs.Writers.{wrote-then, wrote-by, text-on, wrote-grows}
 use Rattle.quote_blocks.proofs.Kept.{quoted-in}
 use Rattle.quote_blocks.proofs.content.put_quoted.Goals as goal
 
 pub put_lines-requires : goal.put_lines-requires
-put_lines-requires c = let t = c.trim_end-z.ensures in
-    let p = c.put_feed_in-w.ensures.appends.grows in
-    let q = c.put_feed_in-x.ensures.appends.grows in
-    ((t.0, omega (arith, t.1.0, c.requires.0.1, p, q)), (omega (arith, t.1.0, c.requires.1.0), (omega (arith, c.requires.1.1.0), omega (arith, c.requires.1.1.1))))
+put_lines-requires c = let t = c.trim_end-end.ensures in
+    let p = wrote-then c.put_feed.ensures c.put_feed-2.ensures in
+    let g = wrote-grows p in
+    (t.0, (omega (arith, t.1.0, c.requires.1.0, g), omega (arith, t.1.0, c.requires.1.1, p.same.end)))
 
 pub returns : goal.returns
-returns c = let t = c.trim_end-z.ensures in
-    quoted-in c.args.a.0 c.args.e.0 c.requires.0.1 c.trim_start-y.result.0 c.trim_end-z.result.0 t.1.0 c.trim_start-y.ensures.1.1 t.1.1 c.put_feed_in-w.ensures c.put_feed_in-x.ensures c.put_lines.ensures
+returns c = let t = c.trim_end-end.ensures in
+    let p = c.put_feed.ensures in
+    let q = wrote-then p c.put_feed-2.ensures in
+    wrote-by (wrote-then q c.put_lines.ensures) (quoted-in c.args.a.0 c.args.e.0 c.requires.1.0 c.trim_start-start.result.0 c.trim_end-end.result.0 t.1.0 c.trim_start-start.ensures.1.1 t.1.1 p.text (text-on p c.put_feed-2.ensures) (text-on q c.put_lines.ensures))
