@@ -6,7 +6,7 @@ use mathlib.Core.List.{List, [], ◌∷◌}
 use lib.ListN.{length, take, drop, length-append}
 use lib.Seq.{take-take, take-length}
 use Rattle.text.specs.Cells.{Cell, cells, part, written, cells_from, more_after}
-use Rattle.text.specs.Writes.{Appends}
+use Rattle.text.specs.Writes.{Appends, AppendsIn}
 use Rattle.text.proofs.Areas.{area-length}
 use Rattle.attribution_reading.specs.Places.{bytes}
 use Rattle.attribution_parts.specs.Attribution.{caption}
@@ -18,7 +18,9 @@ use Rattle.quote_tags.specs.Tags.{opener_size, attribution_of}
 use Rattle.quote_tags.proofs.Tagging.{part-before, opener-within, attribution-none, attribution-at}
 use Rattle.quote_blocks.specs.Quotes.{caption_line, quote_block}
 use Rattle.quote_blocks.proofs.Blocks.{past_end}
+use Rattle.quote_steps.specs.Passes.{BuiltIn}
 use Rattle.quote_steps.proofs.Passing.{cells-front}
+use Rattle.quote_steps.proofs.Within.{built-behind}
 
 -- ---- where it stands
 
@@ -72,7 +74,7 @@ module _ (v : List ℕ) {v' : List ℕ} (e end tag a b : ℕ) {j : ℕ} (ha : a 
   unfolding bytes
   joined_is fit = joined-there p hv fit ∙ ap name_texts (sym kept)
 
-  pub block-joined : (ns : List ℕ) (begin to : ℕ) → to ≤ end → {w w' : List Cell} {at n : ℕ}
+  block-joined : (ns : List ℕ) (begin to : ℕ) → to ≤ end → {w w' : List Cell} {at n : ℕ}
       → Appends w at w' n (quote_block (caption (take (b - a) (drop a v'))) (part begin to (cells v' ns)))
       → Appends w at w' n (quote_block (caption (attribution_of (drop tag (take e v)))) (part begin to (cells v ns)))
   unfolding part
@@ -81,6 +83,12 @@ module _ (v : List ℕ) {v' : List ℕ} (e end tag a b : ℕ) {j : ℕ} (ha : a 
       let f : take to v' ≡ take to v = sym (take-take to end v' h) ∙ ap (take to) p.keeps ∙ take-take to end v h in
       let y : take to (cells v ns) ≡ take to (cells v' ns) = sym (cells-front to v v' ns f) in
       rw (x, y) q
+
+  -- the block of the quote, in the area from `place` up to `end`
+  pub block-built : (ns : List ℕ) (begin to place : ℕ) → to ≤ end → place ≤ end → {w' ns' : List ℕ} {n : ℕ}
+      → AppendsIn v' ns end place w' ns' n (quote_block (caption (take (b - a) (drop a v'))) (part begin to (cells v' ns)))
+      → BuiltIn v ns place end w' ns' n (quote_block (caption (attribution_of (drop tag (take e v)))) (part begin to (cells v ns)))
+  block-built ns begin to place h f q = built-behind p.keeps f q (block-joined ns begin to h q.appends)
 
   -- they do not fit, so neither does the caption, in the area from `place` up to `end`
   pub area-unjoined : (x : List Cell) (ns : List ℕ) (place far : ℕ) → length v < j → end + (end - place) ≤ length v → end ≤ length ns → place ≤ end → end < far

@@ -15,6 +15,7 @@ use quote_tags::tag::opener_size;
 use text::area::copy_back;
 use text::bounds::FULL;
 use text::scan::next_bracket;
+use text::writer::Writer;
 use text::{PostAt, WorkAt};
 
 // Where the pass stands in work memory: its text before `text`, the open contents one behind another from `base` up to `end`, the block of a quote that
@@ -65,7 +66,14 @@ fn build_block(work: &mut [u8], numbers: &mut [u32], m: Areas, quote: Opened, to
         joined: m.top,
         past: WorkAt(past),
     };
-    quote_block(work, numbers, quote.start, to, words, m.top.0, m.end)
+    let mut w = Writer {
+        bytes: work,
+        numbers,
+        at: m.end,
+        end: m.top.0,
+    };
+    quote_block(&mut w, quote.start, to, words);
+    w.at
 }
 
 // Replaces the content of a quote, which ends at `to`, by the quote's block.
