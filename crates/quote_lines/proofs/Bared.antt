@@ -1,15 +1,17 @@
--- Laws of reading a text without its backslashes, and of comparing two texts without them and with them. Assumes nothing.
+-- Laws of reading a text without its backslashes, and of comparing two texts without them. Assumes nothing.
 use mathlib.Core.Path.{◌≡◌, refl, sym, ap, ◌∙◌}
-use Prim.Native.Nat.{ℕ, ◌+◌, ◌*◌, ◌≤◌, ◌<◌}
+use Prim.Native.Nat.{ℕ, suc, ◌+◌, ◌*◌, ◌≤◌, ◌<◌}
 use native.Mathlib.Omega.{arith}
 use native.Mathlib.Numerals.{add-one}
-use mathlib.Core.Bool.{Bool, true, false, ◌&&◌}
+use native.Mathlib.Decide.{dec_le}
+use mathlib.Core.Bool.{Bool, true, false, cond, not, ◌&&◌}
 use mathlib.Core.List.{List, [], ◌∷◌}
-use lib.ListN.{length, drop, get_or, drop_of_length-le}
-use lib.Seq.{drop-cons}
-use lib.Dec.{eqb}
-use borrow.Author.Tests.{eq-eqb, ne_eqb, eqb-true}
-use Rattle.text.specs.Ascii.{is}
+use lib.ListN.{length, drop, get_or, length-drop, drop_of_length-le}
+use lib.Seq.{drop-cons, drop-drop, get_or-drop}
+use lib.Dec.{eqb, leb}
+use borrow.Author.Tests.{eq-eqb, ne_eqb, eqb-true, le-leb, lt-leb}
+use Rattle.text.specs.Ascii.{is, to_first}
+use Rattle.text.proofs.Bytes.{first-within}
 use Rattle.quote_lines.specs.Lines.{bare, same}
 use Rattle.quote_lines.specs.Tables.{weight, PastBackslashes}
 
@@ -28,24 +30,39 @@ module _ (s : List ℕ) (i : ℕ) where
 
 -- ---- over backslashes
 
-pub record Past (s : List ℕ) (at i : ℕ) : Type 0 where
-  pub inside : i ≤ length s
-  pub later : at ≤ i
-  pub same : bare (drop i s) ≡ bare (drop at s)
+abbrev other : ℕ → Bool
+other b = not (eqb b 92)
 
-pub past : (s : List ℕ) (at : ℕ) → at ≤ length s → Past s at at
-past s at h = record { inside = h; later = omega arith; same = refl }
+bare-first : (x : List ℕ) → bare (drop (to_first other x) x) ≡ bare x
+unfolding bare to_first
+bare-first [] = refl
+bare-first (b ∷ x) = by (eqb b 92) refl (bare-first x)
+  where
+    by : (t : Bool) → eqb b 92 ≡ t → bare (drop (to_first other x) x) ≡ bare x → bare (drop (cond (not t) 0 (suc (to_first other x))) (b ∷ x)) ≡ cond t (bare x) (b ∷ bare x)
+    by true e h = h
+    by false e h = rw e
 
-module _ (s : List ℕ) (at i : ℕ) (w : Past s at i) where
-  pub past_end : length s ≤ i → PastBackslashes s at i
-  past_end le = record { inside = w.inside; later = w.later; same = w.same; stops = λ lt. absurd (omega (arith, le, lt)) }
+first-other : (x : List ℕ) → to_first other x < length x → eqb (get_or x (to_first other x) 0) 92 ≡ false
+unfolding to_first
+first-other [] h = absurd (omega arith)
+first-other (b ∷ x) h = by (eqb b 92) refl h (first-other x)
+  where
+    by : (t : Bool) → eqb b 92 ≡ t → cond (not t) 0 (suc (to_first other x)) < suc (length x) → (to_first other x < length x → eqb (get_or x (to_first other x) 0) 92 ≡ false)
+        → eqb (get_or (b ∷ x) (cond (not t) 0 (suc (to_first other x))) 0) 92 ≡ false
+    by true e l k = k (omega arith)
+    by false e l k = e
 
-  module _ (lt : i < length s) where
-    pub past-here : (get_or s i 0 ≡ 92 → ⊥) → PastBackslashes s at i
-    past-here n = record { inside = w.inside; later = w.later; same = w.same; stops = λ _. ne_eqb (get_or s i 0) 92 n }
-
-    pub past-on : get_or s i 0 ≡ 92 → Past s at (i + 1)
-    past-on e = record { inside = omega arith; later = omega (arith, w.later); same = sym (bare-over s i lt (eq-eqb (get_or s i 0) 92 e)) ∙ w.same }
+pub past-first : (s : List ℕ) (at : ℕ) → at ≤ length s → {r : ℕ} → r ≡ at + to_first other (drop at s) → PastBackslashes s at r
+past-first s at h {r} e =
+    let n = to_first other (drop at s) in
+    let w = first-within other (drop at s) in
+    let d = length-drop at s in
+    record {
+      inside = omega (arith, e, w, d);
+      later = omega (arith, e);
+      same = ap (λ (j : ℕ). bare (drop j s)) e ∙ ap bare (sym (drop-drop n at s)) ∙ bare-first (drop at s);
+      stops = λ lt. ap (λ (j : ℕ). eqb (get_or s j 0) 92) e ∙ ap (λ (b : ℕ). eqb b 92) (sym (get_or-drop at s n 0)) ∙ first-other (drop at s) (omega (arith, e, d, lt));
+    }
 
 -- ---- weighing the others
 
@@ -93,13 +110,16 @@ module _ (s a : List ℕ) (i j : ℕ) (w : Comparing s a i j) where
   unfolding same
   comparing-short lt le = sym (sym w.whole ∙ rw (bare-on s i lt (w.stops lt), bare-end a j le))
 
-  pub comparing-long : length s ≤ i → j < length a → false ≡ same (bare s) (bare a)
+  comparing-long : length s ≤ i → j < length a → false ≡ same (bare s) (bare a)
   unfolding same
   comparing-long le lt = sym (sym w.whole ∙ rw (bare-end s i le, bare-on a j lt (w.stops-other lt)))
 
-  pub comparing-end : length s ≤ i → length a ≤ j → true ≡ same (bare s) (bare a)
+  comparing-end : length s ≤ i → length a ≤ j → true ≡ same (bare s) (bare a)
   unfolding same
   comparing-end le ge = sym (sym w.whole ∙ rw (bare-end s i le, bare-end a j ge))
+
+  pub comparing-all : length s ≤ i → leb (length a) j ≡ same (bare s) (bare a)
+  comparing-all le = elim (dec_le (length a) j) [ yes p ↦ rw (le-leb (length a) j p) (comparing-end le p) | no p ↦ rw (lt-leb (length a) j (omega arith)) (comparing-long le (omega arith)) ]
 
   module _ (lt : i < length s) (lo : j < length a) where
     both : same (bare (drop i s)) (bare (drop j a)) ≡ (eqb (get_or s i 0) (get_or a j 0) && same (bare (drop (i + 1) s)) (bare (drop (j + 1) a)))
@@ -142,19 +162,3 @@ pub same_self : (x : List ℕ) → true ≡ same x x
 unfolding same
 same_self [] = refl
 same_self (a ∷ x) = same_self x ∙ sym (rw (eq-eqb a a refl))
-
--- ---- comparing with them
-
--- the texts are equal if they are so from place i on
-pub record Equating (s a : List ℕ) (i : ℕ) : Type 0 where
-  pub whole : drop i s ≡ drop i a → s ≡ a
-
-pub equating : (s a : List ℕ) → Equating s a 0
-equating s a = record { whole = λ d. d }
-
-module _ (s a : List ℕ) (i : ℕ) (w : Equating s a i) where
-  pub equating-on : i < length s → i < length a → get_or s i 0 ≡ get_or a i 0 → Equating s a (i + 1)
-  equating-on lt lo e = record { whole = λ d. w.whole (rw (drop-cons s i 0 lt, drop-cons a i 0 lo, e, ← add-one, d)) }
-
-  pub equating-end : length s ≤ i → length a ≤ i → s ≡ a
-  equating-end le ge = w.whole (drop_of_length-le s {i = i} le ∙ sym (drop_of_length-le a {i = i} ge))

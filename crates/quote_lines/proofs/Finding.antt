@@ -1,7 +1,7 @@
 -- Laws of the search for a quote's tag: ts are the tags of the text, a is the quote's attribution. Assumes nothing.
 use mathlib.Core.Path.{◌≡◌, refl, sym, ap, subst, ◌∙◌}
 use Prim.Native.Nat.{ℕ, zero, suc, ◌+◌, ◌-◌, ◌*◌, ◌≤◌, ◌<◌, min}
-use native.Mathlib.Nat.{add-zero, min-eq_left, min-eq_right, min-le_right}
+use native.Mathlib.Nat.{add-zero, min-eq_left, min-le_right}
 use native.Mathlib.Decide.{dec_le}
 use native.Mathlib.Omega.{arith}
 use native.Mathlib.Numerals.{add-one}
@@ -84,14 +84,9 @@ module _ (ns : List ℕ) (t count next : ℕ) where
   unfolding line_in
   line-none e = rw (eq-eqb count 0 e)
 
-  module _ (n : count ≡ 0 → ⊥) where
-    pub line-next : next < count → get_or ns (t + 3 * next) 0 ≡ line_in ns t count next
-    unfolding line_in
-    line-next lt = let m : min next (count - 1) ≡ next = min-eq_left (omega arith) in rw (ne_eqb count 0 n, m)
-
-    pub line-last : count ≤ next → get_or ns (t + 3 * (count - 1)) 0 ≡ line_in ns t count next
-    unfolding line_in
-    line-last le = let m : min next (count - 1) ≡ count - 1 = min-eq_right (omega arith) in rw (ne_eqb count 0 n, m)
+  pub line-some : {i : ℕ} → (count ≡ 0 → ⊥) → i ≡ min next (count - 1) → get_or ns (t + 3 * i) 0 ≡ line_in ns t count next
+  unfolding line_in
+  line-some n e = rw (e, ne_eqb count 0 n)
 
 -- the line in the table is that of the tag
 pub line-there : (s ns : List ℕ) (t count next : ℕ) → Table s ns t count → line_in ns t count next ≡ (get_or (tags 1 0 s) (min next (length (tags 1 0 s) - 1)) no_tag).line

@@ -10,6 +10,7 @@ use mathlib.Core.List.{List, [], ◌∷◌, ◌++◌}
 use lib.ListN.{length, take, drop, get_or, set, length-set, length-take, length-drop, drop_of_length-le}
 use lib.Seq.{take-add, drop-cons, drop-drop, get_or-drop, get_or-take, get_or-set_same, get_or-set_other, take-take, take-set-le, length-take-le}
 use lib.Dec.{eqb, ltb}
+use mir.Val.{bool_byte}
 use borrow.Author.Tests.{eqb-true, eq-eqb}
 use Rattle.text.specs.Ascii.{is, begins, small, inside, to_first, to_bracket}
 use Rattle.quote_tags.proofs.Masking.{drop-take-take}
@@ -20,6 +21,11 @@ use Rattle.quote_lines.specs.Lines.{Tag, bare, line_after, tags}
 use Rattle.quote_lines.specs.Tables.{weight, words_at, WordsIn, TagAt, no_tag, Weighed, Table, Tabled, Untagged, NextOpener, lines_behind}
 
 -- ---- lines
+
+-- a test as a number
+pub counted : (t : Bool) → (bool_byte t ≡ cond t 1 0) × (bool_byte t ≤ 1)
+counted true = (refl, omega arith)
+counted false = (refl, omega arith)
 
 -- so many line feeds stand from a up to i: the line behind e can be told from there on
 pub record Behind (s : List ℕ) (a e line i feeds : ℕ) : Type 0 where

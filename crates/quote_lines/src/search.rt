@@ -1,5 +1,5 @@
 // The quote tags of the original text, and the line of a converted quote.
-ghost use Rattle.std.specs.Prelude.{◌≡◌, true, cond, ℕ, ◌+◌, ◌-◌, ◌*◌, ◌≤◌, ◌<◌, length, take, drop, MatchOption};
+ghost use Rattle.std.specs.Prelude.{◌≡◌, ℕ, ◌+◌, ◌-◌, ◌*◌, ◌≤◌, ◌<◌, length, take, drop, MatchOption};
 ghost use Rattle.text.specs.Bounds.{text_most, out_most};
 ghost use Rattle.quote_tags.specs.Tags.{NextBracket};
 ghost use Rattle.quote_lines.specs.Lines.{bare, tags, same, find, place, next_after, line_at};
@@ -8,9 +8,9 @@ ghost use Rattle.quote_lines.specs.Tables.{words_at, WordsIn, Weighed, TagAt, Ta
 use crate::weights::{bare_weight, next_number};
 use quote_tags::mask::mask_all;
 use quote_tags::tag::{Kind, next_tag, tag_at};
-use text::scan::next_bracket;
+use text::PostAt;
+use text::scan::{first_from, next_bracket};
 use text::source::set_source;
-use text::{PostAt, shorter};
 
 // A place in the text, the place of the next `]`, the line there, and how many tags stand in the table.
 #[derive(Clone, Copy)]
@@ -33,14 +33,7 @@ fn past_backslashes(s: &[u8], at: usize) -> usize
     requires { at ≤ length s.now }
     ensures { PastBackslashes s.now at result }
 {
-    let mut i = at;
-    while i < s.len() {
-        if s[i] != b'\\' {
-            return i;
-        }
-        i += 1;
-    }
-    i
+    first_from(s, at, |b| b != b'\\')
 }
 
 // Whether two texts are the same without their backslashes.
@@ -50,45 +43,13 @@ fn same_bare(s: &[u8], a: &[u8]) -> bool
     let mut i = past_backslashes(s, 0);
     let mut j = past_backslashes(a, 0);
     while i < s.len() {
-        if a.len() <= j {
-            return false;
-        }
-        if s[i] != a[j] {
+        if a.len() <= j || s[i] != a[j] {
             return false;
         }
         i = past_backslashes(s, i + 1);
         j = past_backslashes(a, j + 1);
     }
-    if j < a.len() {
-        return false;
-    }
-    true
-}
-
-// Whether two texts are the same, with their backslashes.
-fn same_text(s: &[u8], a: &[u8]) -> bool
-    ensures { result ≡ true → s.now ≡ a.now }
-{
-    if s.len() != a.len() {
-        return false;
-    }
-    let mut i: usize = 0;
-    while i < s.len() {
-        if s[i] != a[i] {
-            return false;
-        }
-        i += 1;
-    }
-    true
-}
-
-fn byte_if(yes: bool) -> u8
-    ensures { (result ≡ cond yes 1 0) × (result ≤ 1) }
-{
-    if yes {
-        return 1;
-    }
-    0
+    a.len() <= j
 }
 
 // How many line feeds stand from a place up to another, at most 128 bytes. The count is a byte, so that 16 bytes are counted at once where the
@@ -97,16 +58,14 @@ fn feeds_in(s: &[u8], a: usize, e: usize) -> u8
     requires { (a ≤ e) × ((e ≤ length s.now) × (e ≤ a + 128)) }
     ensures { ((line : ℕ) → line + result ≡ lines_behind line (take (e - a) (drop a s.now))) × (result ≤ e - a) }
 {
-    let mut i = a;
-    let mut feeds: u8 = 0;
-    while i < e {
-        feeds += byte_if(s[i] == b'\n');
-        i += 1;
+    let mut feeds = 0;
+    for i in a..e {
+        feeds += u8::from(s[i] == b'\n');
     }
     feeds
 }
 
-// The line behind the text from a place up to another.
+// The line behind the text from a place up to another. A while: the last step may be shorter.
 fn line_behind(s: &[u8], a: usize, e: usize, line: usize) -> usize
     requires { (a ≤ e) × ((e ≤ length s.now) × (line + (e - a) ≤ 1000000)) }
     ensures { (result ≡ lines_behind line (take (e - a) (drop a s.now))) × (result ≤ line + (e - a)) }
@@ -114,8 +73,8 @@ fn line_behind(s: &[u8], a: usize, e: usize, line: usize) -> usize
     let mut i = a;
     let mut feeds: usize = 0;
     while i < e {
-        let next = i + shorter(128, e - i);
-        feeds += feeds_in(s, i, next) as usize;
+        let next = i + (e - i).min(128);
+        feeds += usize::from(feeds_in(s, i, next));
         i = next;
     }
     line + feeds
@@ -125,10 +84,7 @@ fn line_behind(s: &[u8], a: usize, e: usize, line: usize) -> usize
 pub fn attribution_size(k: usize) -> usize
     ensures { result ≡ k - 8 }
 {
-    if k < 8 {
-        return 0;
-    }
-    k - 8
+    k.saturating_sub(8)
 }
 
 // Writes the numbers of a tag in this line, whose attribution stands from a on.
@@ -210,11 +166,9 @@ fn put_weights(s: &[u8], numbers: &mut [u32], t: usize, count: usize)
     requires { ((length s.now ≤ text_most) × (t + 4 * count ≤ length numbers.old)) × ((k : ℕ) → k < count → WordsIn s.now numbers.old (t + 3 * k)) }
     ensures { Weighed s.now numbers.new t count × (take (t + 3 * count) numbers.new ≡ take (t + 3 * count) numbers.old) }
 {
-    let mut i: usize = 0;
-    while i < count {
+    for i in 0..count {
         let words = words_at(s, numbers, t + 3 * i);
         numbers[t + 3 * count + i] = bare_weight(words) as u32;
-        i += 1;
     }
 }
 
@@ -229,15 +183,11 @@ pub fn read_tags(s: &[u8], numbers: &mut [u32], t: usize) -> usize
         line: 1,
         count: 0,
     };
-    let mut i: usize = 0;
-    while i < s.len() {
+    while st.at.0 < s.len() {
         st = read_tag(s, numbers, t, st);
-        let at = st.at;
-        i = at.0;
     }
-    let count = st.count;
-    put_weights(s, numbers, t, count);
-    count
+    put_weights(s, numbers, t, st.count);
+    st.count
 }
 
 // How many bytes a masked text has, and how many tags its table.
@@ -271,21 +221,16 @@ fn find_tag(
     ensures { result ≡ next + find attribution.now (drop next (tags 1 0 s.now)) }
 {
     // A quote that marks left as it was has just the attribution of tag `next`.
-    if next < count {
-        if same_text(words_at(s, numbers, t + 3 * next), attribution) {
-            return next;
-        }
+    if next < count && words_at(s, numbers, t + 3 * next) == attribution {
+        return next;
     }
     // A text that is heavier than a number can say is no tag's.
-    let weight = shorter(bare_weight(attribution), 4294967295) as u32;
+    let weight = bare_weight(attribution).min(4294967295) as u32;
     let w = t + 3 * count;
     let mut i = next;
     while i < count {
         i = next_number(&numbers[w..w + count], i, weight);
-        if count <= i {
-            return i;
-        }
-        if same_bare(words_at(s, numbers, t + 3 * i), attribution) {
+        if count <= i || same_bare(words_at(s, numbers, t + 3 * i), attribution) {
             return i;
         }
         i += 1;
@@ -299,12 +244,10 @@ fn line_at(numbers: &[u32], t: usize, count: usize, next: usize) -> u32
     ensures { result ≡ line_in numbers.now t count next }
 {
     if count == 0 {
-        return 1;
+        1
+    } else {
+        numbers[t + 3 * next.min(count - 1)]
     }
-    if next < count {
-        return numbers[t + 3 * next];
-    }
-    numbers[t + 3 * (count - 1)]
 }
 
 // The line of a quote with this attribution, searched from tag `next` on.
@@ -321,11 +264,14 @@ pub fn line_of(
 {
     let i = find_tag(s, numbers, t, count, next, attribution);
     if i < count {
-        return Found {
+        Found {
             line: numbers[t + 3 * i],
             next: i + 1,
-        };
+        }
+    } else {
+        Found {
+            line: line_at(numbers, t, count, next),
+            next,
+        }
     }
-    let line = line_at(numbers, t, count, next);
-    Found { line, next }
 }

@@ -11,54 +11,44 @@ pub fn bare_weight(s: &[u8]) -> usize
     requires { length s.now ≤ out_most }
     ensures { (result ≡ weight (bare s.now)) × (result ≤ 511 * length s.now) }
 {
-    let mut n: usize = 0;
-    let mut i: usize = 0;
-    while i < s.len() {
-        let b = s[i];
+    let mut n = 0;
+    for &b in s {
         if b != b'\\' {
-            n += 256 + b as usize;
+            n += 256 + usize::from(b);
         }
-        i += 1;
     }
     n
 }
 
-// Whether 16 numbers stand from i on, none of which is n: a few comparisons where the machine takes several at once.
+// Whether none of the 16 numbers from i on is n: a few comparisons where the machine takes several at once.
 fn none_in_16(numbers: &[u32], i: usize, n: u32) -> bool
-    requires { i ≤ length numbers.now }
-    ensures { result ≡ true → (i + 16 ≤ length numbers.now) × (16 ≤ to_first (λ x. eqb x n) (drop i numbers.now)) }
+    requires { i + 16 ≤ length numbers.now }
+    ensures { result ≡ true → 16 ≤ to_first (λ x. eqb x n) (drop i numbers.now) }
 {
-    if numbers.len() - i < 16 {
-        return false;
-    }
     let mut stands = false;
-    let mut k: usize = 0;
-    while k < 16 {
-        stands = stands | (numbers[i + k] == n);
-        k += 1;
+    for k in i..i + 16 {
+        stands |= numbers[k] == n;
     }
     !stands
 }
 
-// The place of the first number n from a place on, or the end. The first is asked alone: where all are n, that is the whole search.
+// The place of the first number n from a place on, or the end. The first is asked alone: where all are n, that is the whole search. A while: the
+// last block may not be whole.
 pub fn next_number(numbers: &[u32], at: usize, n: u32) -> usize
     requires { at ≤ length numbers.now }
     ensures { result ≡ at + to_first (λ x. eqb x n) (drop at numbers.now) }
 {
-    if at < numbers.len() {
-        if numbers[at] == n {
-            return at;
-        }
+    if at < numbers.len() && numbers[at] == n {
+        return at;
     }
     let mut i = at;
-    while none_in_16(numbers, i, n) {
+    while 16 <= numbers.len() - i && none_in_16(numbers, i, n) {
         i += 16;
     }
-    while i < numbers.len() {
-        if numbers[i] == n {
-            return i;
+    for k in i..numbers.len() {
+        if numbers[k] == n {
+            return k;
         }
-        i += 1;
     }
-    i
+    numbers.len()
 }

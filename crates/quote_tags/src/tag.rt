@@ -97,7 +97,7 @@ fn block_end(s: &[u8], j: usize) -> usize
     requires { j ≤ length s.now }
     ensures { ((j ≤ result) × (result ≤ length s.now)) × (j < length s.now → j < result) }
 {
-    j + 16.min(s.len() - j)
+    j + (s.len() - j).min(16)
 }
 
 // Two places before j, but not before i.

@@ -1,15 +1,15 @@
 use native.Mathlib.Omega.{arith}
-use Rattle.quote_lines.proofs.Tabling.{behind, behind-byte, behind-end}
+use mathlib.Core.Path.{◌∙◌}
+use lib.Dec.{eqb}
+use lib.ListN.{get_or}
+use Rattle.quote_lines.proofs.Tabling.{counted, behind-byte, behind-end}
 use Rattle.quote_lines.proofs.search.feeds_in.Goals as goal
 
-pub loop-i-init : goal.loop-i-init
-loop-i-init c = λ line. behind _ _ _ _ c.requires.0
-
 pub overflow_add-feeds : goal.overflow_add-feeds
-overflow_add-feeds c = let w = c.loop-i.invariant 0 in omega (arith, w.most, w.inside, w.order, c.requires.1.1, c.byte_if-feeds.ensures.1)
+overflow_add-feeds c = let w = c.loop-i.invariant 0 in let b = (counted (eqb (get_or c.args.s.now c.loop-i.i 0) 10)).1 in omega (arith, w.most, w.inside, w.order, c.requires.1.1, c.from-feeds.ensures, c.loop-i-test.true, b)
 
 pub loop-i-preserved : goal.loop-i-preserved
-loop-i-preserved c = λ line. behind-byte (c.loop-i.invariant line) (omega arith) c.requires.1.0 c.byte_if-feeds.ensures.0
+loop-i-preserved c = λ line. behind-byte (c.loop-i.invariant line) c.loop-i-test.true c.requires.1.0 (c.from-feeds.ensures ∙ (counted _).0)
 
 pub returns : goal.returns
 returns c = let l = c.loop-i in

@@ -7,5 +7,5 @@ pub returns-then-i-count : goal.returns-then-i-count
 returns-then-i-count c = let i = c.find_tag-i in
     found _ _ _ i.ensures (omega (arith, c.requires.0.all)) (c.requires.0.each i.result (omega arith)).line-is
 
-pub returns : goal.returns
-returns c = failed _ _ _ c.find_tag-i.ensures (omega (arith, c.requires.0.all)) (c.line_at-line.ensures ∙ line-there _ _ _ _ _ c.requires.0)
+pub returns-else-i-count : goal.returns-else-i-count
+returns-else-i-count c = failed _ _ _ c.find_tag-i.ensures (omega (arith, c.requires.0.all)) (c.line_at.ensures ∙ line-there _ _ _ _ _ c.requires.0)

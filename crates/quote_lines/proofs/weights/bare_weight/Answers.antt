@@ -1,22 +1,15 @@
 use native.Mathlib.Omega.{arith}
-use Rattle.quote_lines.proofs.Bared.{weighing, weighing-on, weighing-over, weighing-end}
+use Rattle.quote_lines.proofs.Bared.{weighing-on, weighing-over, weighing-end}
 use Rattle.quote_lines.proofs.weights.bare_weight.Goals as goal
+use Rattle.quote_lines.proofs.weights.bare_weight.Goals.{then-b-ne92, else-b-ne92}
 
-pub loop-i-init : goal.loop-i-init
-loop-i-init c = weighing _
-
-pub overflow_cast-n : goal.overflow_cast-n
-overflow_cast-n c = let k = c.type_inv.s c.loop-i.i in omega (arith, k)
-
-pub overflow_add-n : goal.overflow_add-n
-overflow_add-n c = let k = c.type_inv.s c.loop-i.i in omega (arith, k)
-
-pub loop-i-preserved : goal.loop-i-preserved
-loop-i-preserved c =
-    let k = c.type_inv.s c.loop-i.i in
-    let on = weighing-on _ _ _ c.loop-i.invariant (omega arith) (omega (arith, k)) in
-    let over = weighing-over _ _ _ c.loop-i.invariant (omega arith) in
-    grind (arith, on, over)
+pub loop-b-preserved : goal.loop-b-preserved
+loop-b-preserved c = let l = c.loop-b in
+    let k = c.type_inv.s l.b-index in
+    elim c.if-b-ne92.branch [
+      | then-b-ne92 w ↦ rw (w.n-is, w.from.ensures) (weighing-on _ _ _ l.invariant c.loop-b-test.true (omega (arith, k)) w.if-b-ne92.true)
+      | else-b-ne92 w ↦ rw w.n-is (weighing-over _ _ _ l.invariant c.loop-b-test.true w.if-b-ne92.false)
+    ]
 
 pub returns : goal.returns
-returns c = weighing-end _ _ _ c.loop-i.invariant (omega arith)
+returns c = weighing-end _ _ _ c.loop-b.invariant (omega arith)

@@ -10,8 +10,5 @@ invariant-loop-i l = Looks (λ x. eqb x l.n) l.numbers l.at l.i
 abbrev pub decreases-loop-i : goal.decreases-loop-i
 decreases-loop-i l = length l.numbers - l.i
 
-abbrev pub invariant-loop-i-2 : goal.invariant-loop-i-2
-invariant-loop-i-2 l = Looks (λ x. eqb x l.n) l.numbers l.at l.i
-
-abbrev pub decreases-loop-i-2 : goal.decreases-loop-i-2
-decreases-loop-i-2 l = length l.numbers - l.i
+abbrev pub invariant-loop-k : goal.invariant-loop-k
+invariant-loop-k l = Looks (λ x. eqb x l.n) l.numbers l.fn.at l.k
