@@ -161,6 +161,15 @@ pub tag-neither : (x : List ℕ) → begins_any openers x ≡ false → begins_a
 unfolding opener_size closer_size tag_size tag_of
 tag-neither x n p = rw (n, p)
 
+pub some-sized : {u k : ℕ} → k ≡ u → (k ≡ 0 → ⊥) → Some k ≡ sized u
+unfolding sized
+some-sized {u = zero} e n = absurd (n e)
+some-sized {u = suc u} e n = rw e
+
+pub none-sized : {u : ℕ} → 0 ≡ u → None ≡ sized u
+unfolding sized
+none-sized e = rw (← e)
+
 -- what is known where a tag or a size was found, or none
 
 module _ {u : ℕ} {r : Option ℕ} (e : r ≡ sized u) where

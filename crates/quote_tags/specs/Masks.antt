@@ -2,6 +2,7 @@
 -- `[c]` or `[icode]` to either closer, then `[noparse]` (shortest match, leftmost first, only if a closer follows) become spaces, one for
 -- each character, line feeds kept."
 --   Mask                what opens a masked region, and what closes it
+--   either, mask_of      the words and the mask that code has
 --   to_closer ws s       how many bytes of s stand before the first of the closers ws; all where there is none
 --   region m s          how many bytes the masked region has that s begins with; 0 for none
 --   blanked b           a byte of a region: a line feed stays, a character's first byte becomes a space, its others go
@@ -15,10 +16,18 @@ use Rattle.std.specs.Prelude.{◌≡◌, ℕ, zero, suc, ◌+◌, ◌-◌, ◌�
 use Rattle.std.specs.Int.Bits.{bit_or}
 use Rattle.text.specs.Ascii.{ascii, is, inside}
 use Rattle.quote_tags.specs.Tags.{begins_any, tag_size}
+use Rattle.quote_tags.specs.declared.mask.Words.{Words}
+use Rattle.quote_tags.specs.declared.mask.Mask.{Mask as Lent}
 
 pub record Mask : Type 0 where
   pub opens : List (List ℕ)
   pub closes : List (List ℕ)
+
+abbrev pub either : Words → List (List ℕ)
+either w = w.first.now ∷ w.second.now ∷ []
+
+abbrev pub mask_of : Lent → Mask
+mask_of m = record { opens = either m.opens; closes = either m.closes }
 
 unfoldable pub code : Mask
 code = record { opens = ascii "[code]" ∷ ascii "[code=" ∷ []; closes = ascii "[/code]" ∷ [] }

@@ -3,27 +3,43 @@
 ghost use Rattle.std.specs.Prelude.{◌≡◌, cond, false, List, [], ◌∷◌, ℕ, ◌+◌, ◌-◌, ◌≤◌, ◌<◌, length, take, drop, get_or};
 ghost use Rattle.text.specs.Ascii.{is, inside, to_bracket};
 ghost use Rattle.quote_tags.specs.Tags.{NextBracket, begins_any, tag_size, sized};
-ghost use Rattle.quote_tags.specs.Masks.{to_closer, region, blanked, Masked, Rewritten, KnownCloser, visible, NoMask, NoOpener};
+ghost use Rattle.quote_tags.specs.Masks.{either, mask_of, to_closer, region, blanked, Masked, Rewritten, KnownCloser, visible, NoMask, NoOpener};
 
 use crate::tag::{bracket_from, up_to_bracket};
 use text::PostAt;
 use text::scan::{begins_at, byte_at, is_inside, next_bracket, small_of};
 
+// Two words, with either of which a tag begins.
+#[derive(Clone, Copy)]
+pub struct Words<'a> {
+    pub first: &'a [u8],
+    pub second: &'a [u8],
+}
+
+// A mask: the words that open it and those that close it, and the letters, as second and as third byte, by which its openers are looked for.
+#[derive(Clone, Copy)]
+pub struct Mask<'a> {
+    pub letter2: u8,
+    pub letter3: u8,
+    pub opens: Words<'a>,
+    pub closes: Words<'a>,
+}
+
 // Whether the text from a place on begins with one of two words.
-fn begins_either(s: &[u8], at: PostAt, first: &[u8], second: &[u8]) -> bool
+fn begins_either(s: &[u8], at: PostAt, words: Words) -> bool
     requires { at.0 ≤ length s.now }
-    ensures { result ≡ begins_any (first.now ∷ second.now ∷ []) (drop at.0 s.now) }
+    ensures { result ≡ begins_any (either words.entry) (drop at.0 s.now) }
 {
-    begins_at(s, at, first) || begins_at(s, at, second)
+    begins_at(s, at, words.first) || begins_at(s, at, words.second)
 }
 
 // The place of the first closer from a place on, or the end.
-fn next_closer(s: &[u8], at: PostAt, first: &[u8], second: &[u8]) -> PostAt
+fn next_closer(s: &[u8], at: PostAt, words: Words) -> PostAt
     requires { at.0 ≤ length s.now }
-    ensures { result.0 ≡ at.0 + to_closer (first.now ∷ second.now ∷ []) (drop at.0 s.now) }
+    ensures { result.0 ≡ at.0 + to_closer (either words.entry) (drop at.0 s.now) }
 {
     for i in at.0..s.len() {
-        if begins_either(s, PostAt(i), first, second) {
+        if begins_either(s, PostAt(i), words) {
             return PostAt(i);
         }
     }
@@ -31,17 +47,11 @@ fn next_closer(s: &[u8], at: PostAt, first: &[u8], second: &[u8]) -> PostAt
 }
 
 // The size of an opener or a closer at a place, one of two words and anything up to `]`, if one is there.
-fn size_of_either(
-    s: &[u8],
-    at: PostAt,
-    bracket: PostAt,
-    first: &[u8],
-    second: &[u8],
-) -> Option<usize>
+fn size_of_either(s: &[u8], at: PostAt, bracket: PostAt, words: Words) -> Option<usize>
     requires { (at.0 ≤ length s.now) × (bracket.0 ≡ at.0 + to_bracket (drop at.0 s.now)) }
-    ensures { result ≡ sized (tag_size (first.now ∷ second.now ∷ []) (drop at.0 s.now)) }
+    ensures { result ≡ sized (tag_size (either words.entry) (drop at.0 s.now)) }
 {
-    if begins_either(s, at, first, second) {
+    if begins_either(s, at, words) {
         up_to_bracket(s, at, bracket)
     } else {
         None
@@ -56,67 +66,51 @@ pub struct Closer {
 }
 
 // The first closer from a place on, where one may be known, from `low` on.
-fn closer_from(
-    s: &[u8],
-    low: usize,
-    at: PostAt,
-    known: Closer,
-    first: &[u8],
-    second: &[u8],
-) -> Closer
-    requires { ((low ≤ at.0) × (at.0 ≤ length s.now)) × KnownCloser (first.now ∷ second.now ∷ []) s.now low known.from.0 known.at.0 }
-    ensures { (result.at.0 ≡ at.0 + to_closer (first.now ∷ second.now ∷ []) (drop at.0 s.now)) × KnownCloser (first.now ∷ second.now ∷ []) s.now low result.from.0 result.at.0 }
+fn closer_from(s: &[u8], low: usize, at: PostAt, known: Closer, words: Words) -> Closer
+    requires { ((low ≤ at.0) × (at.0 ≤ length s.now)) × KnownCloser (either words) s.now low known.from.0 known.at.0 }
+    ensures { (result.at.0 ≡ at.0 + to_closer (either words.entry) (drop at.0 s.now)) × KnownCloser (either words.entry) s.now low result.from.0 result.at.0 }
 {
     if known.from.0 <= at.0 && at.0 <= known.at.0 {
         known
     } else {
         Closer {
             from: at,
-            at: next_closer(s, at, first, second),
+            at: next_closer(s, at, words),
         }
     }
 }
 
-// The masked region at a place, 0 for none, and the next `]` and closer.
+// How many bytes the masked region at a place has, if one begins there, and the next `]` and closer.
 #[derive(Clone, Copy)]
 pub struct Region {
-    pub size: usize,
+    pub size: Option<usize>,
     pub bracket: PostAt,
     pub closer: Closer,
 }
 
-fn region_at(
-    s: &[u8],
-    at: PostAt,
-    bracket: PostAt,
-    closer: Closer,
-    opener: &[u8],
-    opener2: &[u8],
-    first: &[u8],
-    second: &[u8],
-) -> Region
-    requires { (at.0 < length s.now) × (NextBracket s.now at.0 bracket.0 × KnownCloser (first.now ∷ second.now ∷ []) s.now at.0 closer.from.0 closer.at.0) }
-    ensures { (result.size ≡ region (record { opens = opener.now ∷ opener2.now ∷ []; closes = first.now ∷ second.now ∷ [] }) (drop at.0 s.now)) × ((result.bracket.0 ≡ at.0 + to_bracket (drop at.0 s.now)) × KnownCloser (first.now ∷ second.now ∷ []) s.now at.0 result.closer.from.0 result.closer.at.0) }
+fn region_at(s: &[u8], at: PostAt, bracket: PostAt, closer: Closer, mask: Mask) -> Region
+    requires { (at.0 < length s.now) × (NextBracket s.now at.0 bracket.0 × KnownCloser (either mask.closes) s.now at.0 closer.from.0 closer.at.0) }
+    ensures { (result.size ≡ sized (region (mask_of mask.entry) (drop at.0 s.now))) × ((result.bracket.0 ≡ at.0 + to_bracket (drop at.0 s.now)) × KnownCloser (either mask.entry.closes) s.now at.0 result.closer.from.0 result.closer.at.0) }
 {
     let bracket = bracket_from(s, at, bracket);
-    let Some(k) = size_of_either(s, at, bracket, opener, opener2) else {
+    let Some(k) = size_of_either(s, at, bracket, mask.opens) else {
         return Region {
-            size: 0,
+            size: None,
             bracket,
             closer,
         };
     };
-    let closer = closer_from(s, at.0, PostAt(at.0 + k), closer, first, second);
+    let closer = closer_from(s, at.0, PostAt(at.0 + k), closer, mask.closes);
     let q = closer.at;
-    let Some(z) = size_of_either(s, q, next_bracket(s, q), first, second) else {
+    let Some(z) = size_of_either(s, q, next_bracket(s, q), mask.closes) else {
         return Region {
-            size: 0,
+            size: None,
             bracket,
             closer,
         };
     };
     Region {
-        size: q.0 - at.0 + z,
+        size: Some(q.0 - at.0 + z),
         bracket,
         closer,
     }
@@ -232,20 +226,10 @@ fn blank_out(buf: &mut [u8], a: usize, e: usize, to: usize) -> usize
     t
 }
 
-// Masks the first n bytes by one of the three masks: openers and closers are one of two words each, and openers are looked for by the letters.
-// Returns how many bytes are left.
-fn mask(
-    buf: &mut [u8],
-    n: usize,
-    letter2: u8,
-    letter3: u8,
-    opener: &[u8],
-    opener2: &[u8],
-    first: &[u8],
-    second: &[u8],
-) -> usize
-    requires { (n ≤ length buf.old) × ((x : List ℕ) → NoOpener letter2 letter3 x → region (record { opens = opener.now ∷ opener2.now ∷ []; closes = first.now ∷ second.now ∷ [] }) x ≡ 0) }
-    ensures { Masked (record { opens = opener.now ∷ opener2.now ∷ []; closes = first.now ∷ second.now ∷ [] }) n buf.old result buf.new }
+// Masks the first n bytes by a mask, and returns how many bytes are left. A while: regions have different sizes.
+fn mask_by(buf: &mut [u8], n: usize, mask: Mask) -> usize
+    requires { (n ≤ length buf.old) × ((x : List ℕ) → NoOpener mask.letter2 mask.letter3 x → region (mask_of mask) x ≡ 0) }
+    ensures { Masked (mask_of mask.entry) n buf.old result buf.new }
 {
     let mut i: usize = 0;
     let mut to: usize = 0;
@@ -255,31 +239,24 @@ fn mask(
         at: PostAt(0),
     };
     while i < n {
-        let next = next_opener(&buf[..n], PostAt(i), letter2, letter3);
+        let next = next_opener(&buf[..n], PostAt(i), mask.letter2, mask.letter3);
         to = move_down(buf, i, next.0, to);
         i = next.0;
         if n <= i {
             return to;
         }
-        let here = region_at(
-            &buf[..n],
-            PostAt(i),
-            bracket,
-            closer,
-            opener,
-            opener2,
-            first,
-            second,
-        );
+        let here = region_at(&buf[..n], PostAt(i), bracket, closer, mask);
         bracket = here.bracket;
         closer = here.closer;
-        let size = here.size;
-        if size == 0 {
-            to = move_down(buf, i, i + 1, to);
-            i += 1;
-        } else {
-            to = blank_out(buf, i, i + size, to);
-            i += size;
+        match here.size {
+            Some(size) => {
+                to = blank_out(buf, i, i + size, to);
+                i += size;
+            }
+            None => {
+                to = move_down(buf, i, i + 1, to);
+                i += 1;
+            }
         }
     }
     to
@@ -290,20 +267,45 @@ fn mask_each(buf: &mut [u8], n: usize) -> usize
     requires { n ≤ length buf.old }
     ensures { (result ≤ n) × (take result buf.new ≡ visible (take n buf.old)) }
 {
-    let a = mask(
-        buf, n, b'c', 0, b"[code]", b"[code=", b"[/code]", b"[/code]",
-    );
-    let b = mask(buf, a, b'c', b'c', b"[c]", b"[icode]", b"[/c]", b"[/icode]");
-    mask(
-        buf,
-        b,
-        b'n',
-        0,
-        b"[noparse]",
-        b"[noparse]",
-        b"[/noparse]",
-        b"[/noparse]",
-    )
+    let code = Mask {
+        letter2: b'c',
+        letter3: 0,
+        opens: Words {
+            first: b"[code]",
+            second: b"[code=",
+        },
+        closes: Words {
+            first: b"[/code]",
+            second: b"[/code]",
+        },
+    };
+    let icode = Mask {
+        letter2: b'c',
+        letter3: b'c',
+        opens: Words {
+            first: b"[c]",
+            second: b"[icode]",
+        },
+        closes: Words {
+            first: b"[/c]",
+            second: b"[/icode]",
+        },
+    };
+    let noparse = Mask {
+        letter2: b'n',
+        letter3: 0,
+        opens: Words {
+            first: b"[noparse]",
+            second: b"[noparse]",
+        },
+        closes: Words {
+            first: b"[/noparse]",
+            second: b"[/noparse]",
+        },
+    };
+    let a = mask_by(buf, n, code);
+    let b = mask_by(buf, a, icode);
+    mask_by(buf, b, noparse)
 }
 
 // Whether a word that opens a mask stands at a place.

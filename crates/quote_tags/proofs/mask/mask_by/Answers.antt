@@ -1,9 +1,10 @@
 use native.Mathlib.Omega.{arith}
-use mathlib.Core.Path.{sym, ◌∙◌}
+use mathlib.Core.Path.{refl, sym, ◌∙◌}
 use lib.Seq.{length-take-le}
+use Rattle.quote_tags.proofs.Tagging.{sized-some, sized-none}
 use Rattle.quote_tags.proofs.Masking.{begin, bracket-now, closer-now, known, finished}
 use Rattle.quote_tags.proofs.Moving.{run_inside, region-inside, moved, moved-one, blanked-out, size-now}
-use Rattle.quote_tags.proofs.mask.mask.Goals as goal
+use Rattle.quote_tags.proofs.mask.mask_by.Goals as goal
 
 pub slice_bounds-next_bracket-end : goal.slice_bounds-next_bracket-end
 slice_bounds-next_bracket-end c = c.requires.0
@@ -45,34 +46,25 @@ pub region_at-here-requires : goal.region_at-here-requires
 region_at-here-requires c = let p = c.requires in let d = c.move_down-to in let w = moved c.loop-i.invariant p.0 p.1 c.next_opener-next.ensures d.ensures d.auto.buf in let k = size-now w p.0 in (omega (arith, k, c.if-n-i.false), (bracket-now w, closer-now w))
 
 pub overflow_add-i : goal.overflow_add-i
-overflow_add-i c = omega (arith, c.if-n-i.false, c.requires.0)
-
-pub move_down-to-requires-then-size-eq0 : goal.move_down-to-requires-then-size-eq0
-move_down-to-requires-then-size-eq0 c = let p = c.requires in let d = c.move_down-to in let w = moved c.loop-i.invariant p.0 p.1 c.next_opener-next.ensures d.ensures d.auto.buf in (w.order, (omega arith, omega (arith, w.same, c.if-n-i.false, p.0)))
-
-pub overflow_add-i-then-size-eq0 : goal.overflow_add-i-then-size-eq0
-overflow_add-i-then-size-eq0 c = omega (arith, c.if-n-i.false, c.requires.0)
-
-pub loop-i-smaller-then-size-eq0 : goal.loop-i-smaller-then-size-eq0
-loop-i-smaller-then-size-eq0 c = let p = c.requires in let r = run_inside c.loop-i.invariant p.0 p.1 c.next_opener-next.ensures in omega (arith, r.0, c.if-n-i.false)
-
-pub loop-i-preserved-then-size-eq0 : goal.loop-i-preserved-then-size-eq0
-loop-i-preserved-then-size-eq0 c = let p = c.requires in let d = c.move_down-to in let w = moved c.loop-i.invariant p.0 p.1 c.next_opener-next.ensures d.ensures d.auto.buf in let r = c.region_at-here.ensures in let v = known w (λ _. r.1.0) r.1.1 in let m = c.move_down-to-then-size-eq0 in moved-one v p.0 r.0 (omega (arith, c.if-n-i.false)) c.if-size-eq0.true m.ensures m.auto.buf
-
-pub overflow_add-i-else-size-eq0 : goal.overflow_add-i-else-size-eq0
-overflow_add-i-else-size-eq0 c = let p = c.requires in let d = c.move_down-to in let w = moved c.loop-i.invariant p.0 p.1 c.next_opener-next.ensures d.ensures d.auto.buf in let r = c.region_at-here.ensures in let v = known w (λ _. r.1.0) r.1.1 in let h = region-inside w p.0 r.0 in omega (arith, h, p.0)
+overflow_add-i c = let p = c.requires in let d = c.move_down-to in let w = moved c.loop-i.invariant p.0 p.1 c.next_opener-next.ensures d.ensures d.auto.buf in let r = c.region_at-here.ensures in let k = sized-some r.0 c.in-Some.is in let h = region-inside w p.0 k.0 in omega (arith, h, p.0)
 
 pub blank_out-to-requires : goal.blank_out-to-requires
-blank_out-to-requires c = let p = c.requires in let d = c.move_down-to in let w = moved c.loop-i.invariant p.0 p.1 c.next_opener-next.ensures d.ensures d.auto.buf in let r = c.region_at-here.ensures in let v = known w (λ _. r.1.0) r.1.1 in let h = region-inside w p.0 r.0 in (w.order, (omega arith, omega (arith, h, w.same, p.0)))
+blank_out-to-requires c = let p = c.requires in let d = c.move_down-to in let w = moved c.loop-i.invariant p.0 p.1 c.next_opener-next.ensures d.ensures d.auto.buf in let r = c.region_at-here.ensures in let k = sized-some r.0 c.in-Some.is in let h = region-inside w p.0 k.0 in (w.order, (omega arith, omega (arith, h, w.same, p.0)))
 
-pub overflow_add-i-else-size-eq0-2 : goal.overflow_add-i-else-size-eq0-2
-overflow_add-i-else-size-eq0-2 c = let p = c.requires in let d = c.move_down-to in let w = moved c.loop-i.invariant p.0 p.1 c.next_opener-next.ensures d.ensures d.auto.buf in let r = c.region_at-here.ensures in let v = known w (λ _. r.1.0) r.1.1 in let h = region-inside w p.0 r.0 in omega (arith, h, p.0)
+pub overflow_add-i-in-Some : goal.overflow_add-i-in-Some
+overflow_add-i-in-Some c = let p = c.requires in let d = c.move_down-to in let w = moved c.loop-i.invariant p.0 p.1 c.next_opener-next.ensures d.ensures d.auto.buf in let r = c.region_at-here.ensures in let k = sized-some r.0 c.in-Some.is in let h = region-inside w p.0 k.0 in omega (arith, h, p.0)
+
+pub loop-i-smaller-in-Some : goal.loop-i-smaller-in-Some
+loop-i-smaller-in-Some c = let p = c.requires in let k = sized-some c.region_at-here.ensures.0 c.in-Some.is in let r = run_inside c.loop-i.invariant p.0 p.1 c.next_opener-next.ensures in omega (arith, r.0, c.if-n-i.false, k.1)
+
+pub loop-i-preserved-in-Some : goal.loop-i-preserved-in-Some
+loop-i-preserved-in-Some c = let p = c.requires in let d = c.move_down-to in let w = moved c.loop-i.invariant p.0 p.1 c.next_opener-next.ensures d.ensures d.auto.buf in let r = c.region_at-here.ensures in let k = sized-some r.0 c.in-Some.is in let v = known w (λ _. r.1.0) r.1.1 in let m = c.blank_out-to in blanked-out v p.0 k.0 k.1 m.ensures m.auto.buf
 
 pub loop-i-smaller : goal.loop-i-smaller
-loop-i-smaller c = let p = c.requires in let r = run_inside c.loop-i.invariant p.0 p.1 c.next_opener-next.ensures in omega (arith, r.0, c.if-n-i.false, c.if-size-eq0.false)
+loop-i-smaller c = let p = c.requires in let r = run_inside c.loop-i.invariant p.0 p.1 c.next_opener-next.ensures in omega (arith, r.0, c.if-n-i.false)
 
 pub loop-i-preserved : goal.loop-i-preserved
-loop-i-preserved c = let p = c.requires in let d = c.move_down-to in let w = moved c.loop-i.invariant p.0 p.1 c.next_opener-next.ensures d.ensures d.auto.buf in let r = c.region_at-here.ensures in let v = known w (λ _. r.1.0) r.1.1 in let m = c.blank_out-to in blanked-out v p.0 r.0 c.if-size-eq0.false m.ensures m.auto.buf
+loop-i-preserved c = let p = c.requires in let d = c.move_down-to in let w = moved c.loop-i.invariant p.0 p.1 c.next_opener-next.ensures d.ensures d.auto.buf in let r = c.region_at-here.ensures in let z = sized-none r.0 c.in-None.is in let v = known w (λ _. r.1.0) r.1.1 in let m = c.move_down-to-in-None in moved-one v p.0 (sym z) (omega (arith, c.if-n-i.false)) refl m.ensures m.auto.buf
 
 pub returns : goal.returns
 returns c = finished c.loop-i.invariant (omega arith) c.requires.0
