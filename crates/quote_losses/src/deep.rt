@@ -4,7 +4,7 @@ ghost use Rattle.text.specs.Bounds.{deep_most};
 
 use text::bounds::DEEP_MOST;
 
-// How many quotes are open behind an opener. One more than may be open stays so.
+// How many quotes are open behind an opener. One more than may be open stays so: a number is compared once, at the end, where an Option would be asked at each tag.
 pub fn open_more(open: usize) -> usize
     requires { «open» ≤ deep_most + 1 }
     ensures { («open» ≤ deep_most → result ≡ «open» + 1) × ((deep_most < «open» → result ≡ «open») × (result ≤ deep_most + 1)) }

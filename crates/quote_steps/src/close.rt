@@ -1,5 +1,5 @@
 // Closing a quote: its block takes the place of its content. The block is built in an area of its own behind the contents, with the joined texts of the
-// attribution behind that, and copied back.
+// attribution behind that, and copied back. What does not fit ends past every end, at FULL, as it does for text's area.
 ghost use Rattle.std.specs.Prelude.{◌≡◌, ◌-◌, ◌≤◌, length, take, drop};
 ghost use Rattle.text.specs.Cells.{cells, part};
 ghost use Rattle.attribution_parts.specs.Attribution.{caption};

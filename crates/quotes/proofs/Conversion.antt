@@ -7,24 +7,24 @@ use native.Mathlib.Nat.{zero-add}
 use native.Mathlib.Omega.{arith}
 use lib.ListN.{length, take, drop, length-map, length-append}
 use lib.Seq.{take-take, length-take-le, take-append-le}
+use Rattle.std.proofs.lemmas.List.{length-take}
 use lib.Dec.{ltb}
 use borrow.Author.Tests.{lt-ltb, le-ltb, ltb-false}
+use Rattle.std.specs.Prelude.{Result, Ok, Err}
 use Rattle.text.specs.Cells.{Cell, cells, cells_of, bytes, part}
 use Rattle.text.specs.Writes.{cleared, LaidOut}
 use Rattle.lending.specs.declared.lent.Refusal.{Refusal}
 use Rattle.lending.specs.declared.lent.Refusal.TheVariants.{NoSpace}
-use Rattle.lending.specs.declared.lent.Checked.{Checked}
-use Rattle.lending.specs.declared.lent.Checked.TheVariants as C
-use Rattle.text.proofs.Clearing.{laid-cleared}
+use Rattle.lending.specs.declared.answer.Converted.{Converted}
+use Rattle.lending.specs.Answer.{answer_by, losses_by}
+use Rattle.text.proofs.Clearing.{laid-cleared, cleared-all}
 use Rattle.attribution_parts.specs.Attribution.{caption}
 use Rattle.quote_tags.specs.Masks.{visible}
 use Rattle.quote_lines.specs.Lines.{tags, lines_of}
 use Rattle.quote_blocks.specs.Quotes.{too_deep, quotes, quotes_need}
 use Rattle.quote_blocks.proofs.QuotesFit.{quotes-fit}
-use Rattle.quotes.specs.declared.Quoted.{Quoted}
-use Rattle.quotes.specs.declared.Quoted.TheVariants.{Done, Refused}
 use Rattle.quote_losses.specs.Losses.{quote_losses, loss_bytes, loss_records, ListsLosses}
-use Rattle.quotes.specs.Calls.{limited, spaced, answer_by, converted, Filled, Noted, Answers, Spelled}
+use Rattle.quotes.specs.Calls.{limited, spaced, converted, text_of, words_in, Filled, Noted, Left, Spelled, Written}
 
 -- ---- losses
 
@@ -52,14 +52,14 @@ module _ (original s rs bs rs' bs' : List ℕ) (losses words : ℕ) (w : ListsLo
 
 -- ---- which refusal
 
-limited-fine : (deep many long : Bool) → limited deep many long ≡ C.Fine → (deep ≡ false) × ((many ≡ false) × (long ≡ false))
+limited-fine : (deep many long : Bool) → limited deep many long ≡ Ok tt → (deep ≡ false) × ((many ≡ false) × (long ≡ false))
 limited-fine true many long h = let z : ◌≡◌ {A = ℕ} 0 1 = cc in absurd (omega arith)
 limited-fine false true long h = let z : ◌≡◌ {A = ℕ} 0 1 = cc in absurd (omega arith)
 limited-fine false false true h = let z : ◌≡◌ {A = ℕ} 0 1 = cc in absurd (omega arith)
 limited-fine false false false h = (refl, (refl, refl))
 
 -- within the limits
-pub within : (deep : Bool) (j b losses words : ℕ) → limited deep (ltb j losses) (ltb b words) ≡ C.Fine → (deep ≡ false) × ((losses ≤ j) × (words ≤ b))
+pub within : (deep : Bool) (j b losses words : ℕ) → limited deep (ltb j losses) (ltb b words) ≡ Ok tt → (deep ≡ false) × ((losses ≤ j) × (words ≤ b))
 within deep j b losses words h = let f = limited-fine deep (ltb j losses) (ltb b words) h in (f.0, (ltb-false j losses f.1.0, ltb-false b words f.1.1))
 
 pub converted-by : (x : List Cell) (m j b b' losses words : ℕ) (deep : Bool) → b' ≡ b → deep ≡ too_deep x → losses ≡ length (quote_losses x) → words ≡ length (loss_bytes x)
@@ -67,33 +67,34 @@ pub converted-by : (x : List Cell) (m j b b' losses words : ℕ) (deep : Bool) �
 unfolding converted
 converted-by x m j b b' losses words deep eb d l w = rw (eb, d, l, w)
 
--- ---- the answer
+-- where the counts of a text decide
+module _ (x : List Cell) (m j b : ℕ) {losses words : ℕ} {deep : Bool} (d : deep ≡ too_deep x) (l : losses ≡ length (quote_losses x)) (w : words ≡ length (loss_bytes x)) where
+  pub limits-fine : limited deep (ltb j losses) (ltb b words) ≡ Ok tt → spaced x m ≡ converted x m j b
+  limits-fine e = ap (λ (c : Result (Unit {0}) Refusal). answer_by c (spaced x m)) (sym e) ∙ converted-by x m j b b losses words deep refl d l w
 
-module _ {text : List ℕ} {m k b : ℕ} {wanted l : Quoted} {out plain words : List ℕ} where
-  pub answers-refused : (c : Checked) (r : Refusal) (else : Quoted) → answer_by c else ≡ wanted → c ≡ C.Refused r → l ≡ Refused r → Filled [] [] m k b out plain words → Answers text m k b wanted l out plain words
-  answers-refused c r else w e g f = rw g (record { answer = ap (λ (a : Checked). answer_by a else) (sym e) ∙ w; filled = f })
+  pub limits-refuse : {r : Refusal} → limited deep (ltb j losses) (ltb b words) ≡ Err r → Err r ≡ converted x m j b
+  limits-refuse e = ap (λ (c : Result (Unit {0}) Refusal). answer_by c (spaced x m)) (sym e) ∙ converted-by x m j b b losses words deep refl d l w
 
-  pub answers-fine : (c : Checked) (else : Quoted) → answer_by c else ≡ wanted → c ≡ C.Fine → Answers text m k b else l out plain words → Answers text m k b wanted l out plain words
-  answers-fine c else w e a = record { answer = a.answer ∙ ap (λ (a : Checked). answer_by a else) (sym e) ∙ w; filled = a.filled }
+pub spaced-full : (x : List Cell) (m : ℕ) → m < quotes_need caption x → Err NoSpace ≡ spaced x m
+unfolding spaced
+spaced-full x m h = rw (lt-ltb m (quotes_need caption x) h) refl
+
+pub spaced-done : (x : List Cell) (m : ℕ) {d : Converted} → quotes_need caption x ≤ m → d.size ≡ length (quotes caption x) → d.losses ≡ length (quote_losses x) → d.bytes ≡ length (loss_bytes x) → Ok d ≡ spaced x m
+unfolding spaced
+spaced-done x m {d} h a b c = rw (le-ltb m (quotes_need caption x) h, ← a, ← b, ← c) refl
 
 -- ---- the losses of an answer
 
-pub refused-noted : (text : List ℕ) (j : ℕ) (l : Quoted) (r : Refusal) (numbers : List ℕ) → l ≡ Refused r → Noted text j l numbers
-refused-noted text j l r numbers e = rw e (record { room = omega arith; few = omega arith; there = refl })
+pub refused-noted : (text : List ℕ) (j : ℕ) (r : Refusal) (numbers : List ℕ) → Noted text j (Err r) numbers
+refused-noted text j r numbers = record { room = omega arith; few = omega arith; there = refl }
 
 -- behind the first `base` numbers others were written
-module _ (text : List ℕ) (j losses base : ℕ) (ns rest : List ℕ) (few : losses ≤ j) (there : take (5 * losses) (take base ns) ≡ loss_records text (cells_of text)) (room : 5 * losses ≤ base) (in-numbers : base ≤ length ns)
-    (count : losses ≡ length (quote_losses (cells_of text))) where
-  noted-by : (over : Bool) (l : Quoted) (size words : ℕ) → l ≡ cond over (Refused NoSpace) (Done size (length (quote_losses (cells_of text))) words) → Noted text j l (take base ns ++ rest)
-  noted-by true l size words e = refused-noted text j l NoSpace (take base ns ++ rest) e
-  noted-by false l size words e =
-      let n : length (take base ns) ≡ base = length-take-le base ns in-numbers in
-      let z = length-append (take base ns) rest in
-      rw (e, ← count) (record { room = omega (arith, n, z); few = few; there = take-append-le (5 * losses) (take base ns) rest (omega (arith, n)) ∙ there })
-
-  pub spaced-noted : (m : ℕ) (l : Quoted) → l ≡ spaced (cells_of text) m → Noted text j l (take base ns ++ rest)
-  unfolding spaced
-  spaced-noted m l e = noted-by (ltb m (quotes_need caption (cells_of text))) l _ _ e
+pub done-noted : (text : List ℕ) (j base : ℕ) (ns rest : List ℕ) {d : Converted} → d.losses ≤ j → take (5 * d.losses) (take base ns) ≡ loss_records text (cells_of text) → 5 * d.losses ≤ base → base ≤ length ns
+    → Noted text j (Ok d) (take base ns ++ rest)
+done-noted text j base ns rest {d} few there room in-numbers =
+    let n : length (take base ns) ≡ base = length-take-le base ns in-numbers in
+    let z = length-append (take base ns) rest in
+    record { room = omega (arith, n, z); few = few; there = take-append-le (5 * d.losses) (take base ns) rest (omega (arith, n)) ∙ there }
 
 -- ---- the pass
 
@@ -102,31 +103,29 @@ pub source-taken : (text bs ns : List ℕ) → part 0 (0 + length text) (cells b
 unfolding part
 source-taken text bs ns h = ap (λ (k : ℕ). take k (cells bs ns)) (sym (zero-add (length text))) ∙ h
 
-module _ (text : List ℕ) (y v : List Cell) (m n end : ℕ) (z : y ≡ cells_of text) (area : end ≡ n + m) where
-  module _ {k b : ℕ} {l : Quoted} {out plain words : List ℕ} where
-    pub written-full : end < n + quotes_need caption y → l ≡ Refused NoSpace → Filled [] [] m k b out plain words → Answers text m k b (spaced (cells_of text) m) l out plain words
-    unfolding spaced
-    written-full far g f =
-        let e : quotes_need caption y ≡ quotes_need caption (cells_of text) = ap (quotes_need caption) z in
-        rw g (record { answer = rw (lt-ltb m (quotes_need caption (cells_of text)) (omega (arith, e, area, far))); filled = f })
+module _ (text : List ℕ) (y v : List Cell) (n end : ℕ) (out plain : List ℕ) (z : y ≡ cells_of text) (area : end ≡ n + length out) where
+  pub written-full : (out' plain' : List ℕ) {r : Refusal} → end < n + quotes_need caption y → r ≡ NoSpace → Written text out plain (Err r) out' plain'
+  written-full out' plain' far g = let e : quotes_need caption y ≡ quotes_need caption (cells_of text) = ap (quotes_need caption) z in (omega (arith, e, area, far), g)
 
-    pub written-done : (bs : List ℕ) (losses size r need : ℕ) → ((n + quotes_need caption y ≤ end) × (need ≡ quotes_need caption y)) × ((r ≡ n + length (quotes caption y)) × (part n r (take end v) ≡ quotes caption y)) → r ≤ end
-        → Spelled (cells_of text) bs losses size → length bs ≡ b → l ≡ Done (r - n) losses size → LaidOut (part n r v) m k out plain → words ≡ cleared size bs
-        → Answers text m k b (spaced (cells_of text) m) l out plain words
-    unfolding spaced part
-    written-done bs losses size r need p fit w lb g laid eb =
-        let e : quotes_need caption y ≡ quotes_need caption (cells_of text) = ap (quotes_need caption) z in
-        let t : length (quotes caption y) ≡ length (quotes caption (cells_of text)) = ap (λ (c : List Cell). length (quotes caption c)) z in
-        let s : r - n ≡ length (quotes caption (cells_of text)) = omega (arith, p.1.0, t) in
-        let c : part n r v ≡ quotes caption (cells_of text) = ap (drop n) (sym (take-take r end v fit)) ∙ p.1.1 ∙ ap (quotes caption) z in
-        rw g (record {
-          answer = rw (le-ltb m (quotes_need caption (cells_of text)) (omega (arith, p.0.0, e, area)), ← s, ← w.count, ← w.size);
-          filled = record {
-            laid = rw (← c) laid;
-            spelled = eb ∙ laid-cleared (loss_bytes (cells_of text)) bs size b lb (sym w.size) w.words-there;
-          };
-        })
+  pub written-done : (r : ℕ) {need : ℕ} → ((n + quotes_need caption y ≤ end) × (need ≡ quotes_need caption y)) × ((r ≡ n + length (quotes caption y)) × (part n r (take end v) ≡ quotes caption y)) → r ≤ end
+      → {out' plain' : List ℕ} → LaidOut (part n r v) (length out) (length plain) out' plain' → Written text out plain (Ok (r - n)) out' plain'
+  unfolding part
+  written-done r p fit laid =
+      let e : quotes_need caption y ≡ quotes_need caption (cells_of text) = ap (quotes_need caption) z in
+      let t : length (quotes caption y) ≡ length (quotes caption (cells_of text)) = ap (λ (c : List Cell). length (quotes caption c)) z in
+      let c : part n r v ≡ quotes caption (cells_of text) = ap (drop n) (sym (take-take r end v fit)) ∙ p.1.1 ∙ ap (quotes caption) z in
+      ((omega (arith, p.0.0, e, area), omega (arith, p.1.0, t)), rw (← c) laid)
 
 -- what the pass leaves stays within the room
 pub quoted-within : (x : List Cell) (n end r : ℕ) → n + quotes_need caption x ≤ end → r ≡ n + length (quotes caption x) → (n ≤ r) × (r ≤ end)
 quoted-within x n end r h e = let f = quotes-fit caption x in (omega (arith, e), omega (arith, e, f, h))
+
+-- ---- what is left
+
+-- the loss bytes are in the slice, and clearing it behind them fills it
+module _ (text : List ℕ) {m k : ℕ} (d : Converted) {out plain words : List ℕ} (l : Left text m k (Ok d) out plain words) where
+  pub left-within : d.bytes ≤ length words
+  left-within = let s = l.1 in omega (arith, ap length s.words-there, length-take d.bytes words, s.size)
+
+  pub left-filled : {b : ℕ} {words' : List ℕ} → length words ≡ b → words' ≡ cleared d.bytes words → Filled (quotes caption (cells_of text)) (loss_bytes (cells_of text)) m k b out plain words'
+  left-filled {b} lb e = let s = l.1 in record { laid = l.0; spelled = e ∙ laid-cleared (loss_bytes (cells_of text)) words d.bytes b lb (sym s.size) s.words-there }

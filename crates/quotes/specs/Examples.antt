@@ -10,7 +10,8 @@ use Rattle.quote_blocks.specs.Quotes.{quotes, quotes_need, too_deep, taken_quote
 use Rattle.quote_tags.specs.Masks.{visible, computes as masks_compute}
 use Rattle.quote_lines.specs.Lines.{lines_of, computes as search_computes}
 use Rattle.quote_losses.specs.Losses.{loss_records, loss_bytes, computes as losses_compute}
-use Rattle.quotes.specs.Calls.{converted, number_of_answer, counts_of_answer, computes as calls_compute}
+use Rattle.lending.specs.Answer.{number_of_answer, counts_of_answer}
+use Rattle.quotes.specs.Calls.{converted, computes as calls_compute}
 use Rattle.day.specs.Day.{computes as day_computes}
 use Rattle.attribution_parts.specs.Parts.{computes as parts_compute}
 use Rattle.attribution_parts.specs.Attribution.{caption as attribution_caption, computes as attribution_computes}

@@ -1,17 +1,20 @@
 use mathlib.Core.Path.{refl, sym, ◌∙◌}
+use Rattle.std.proofs.lemmas.Result.{err_from_is_err_and}
 use Rattle.lending.proofs.Sizes.{enough}
 use Rattle.quotes.specs.Calls.{answered}
-use Rattle.quotes.proofs.Conversion.{answers-refused, answers-fine, refused-noted}
+use Rattle.quotes.proofs.Conversion.{refused-noted}
 use Rattle.quotes.proofs.convert_listed.Goals as goal
 
+pub returns-in_err-check : goal.returns-in_err-check
+unfolding answered
+returns-in_err-check c = let e = err_from_is_err_and c.from_residual.result c.from_residual.ensures.1 in
+    rw (e.1, e.2) (record { answer = rw (sym c.check.ensures ∙ c.in_err-check.was) refl; left = tt }, refused-noted _ _ _ _)
+
 pub convert-requires : goal.convert-requires
-convert-requires c = let h = enough _ _ (sym c.check-checked.ensures ∙ c.in-Fine.is) in
+convert-requires c = let h = enough _ _ (sym c.check.ensures ∙ c.in_ok-check.was) in
     (((h.text, h.out), (h.work, h.numbers)), h.origins)
 
-pub returns-in-Refused : goal.returns-in-Refused
+pub returns : goal.returns
 unfolding answered
-returns-in-Refused c = let r = c.refuse.ensures in (answers-refused _ _ _ refl (sym c.check-checked.ensures ∙ c.in-Refused.is) r.0 r.1, refused-noted _ _ _ _ _ r.0)
-
-pub returns-in-Fine : goal.returns-in-Fine
-unfolding answered
-returns-in-Fine c = let r = c.convert.ensures in (answers-fine _ _ refl (sym c.check-checked.ensures ∙ c.in-Fine.is) r.0, r.1)
+returns c = let r = c.convert.ensures in
+    (record { answer = r.0.answer ∙ rw (sym c.check.ensures ∙ c.in_ok-check.was) refl; left = r.0.left }, r.1)

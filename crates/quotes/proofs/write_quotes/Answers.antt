@@ -1,42 +1,39 @@
 use native.Mathlib.Omega.{arith}
-use mathlib.Core.Path.{refl, ap, ◌∙◌}
+use mathlib.Core.Path.{◌≡◌, refl, ap, ◌∙◌}
 use mathlib.Core.List.{[]}
-use Rattle.quotes.proofs.Conversion.{source-taken, written-full, written-done, quoted-within}
+use Rattle.std.proofs.lemmas.Result.{err_from_is_err_and}
+use Rattle.lending.specs.declared.lent.Refusal.TheVariants.{NoSpace}
 use Rattle.quote_blocks.specs.Quotes.{too_deep}
+use Rattle.quotes.proofs.Conversion.{source-taken, written-full, written-done, quoted-within}
 use Rattle.quotes.proofs.write_quotes.Goals as goal
 
-pub quote_pass-passed-requires : goal.quote_pass-passed-requires
-quote_pass-passed-requires c = let x = c.args in
+pub quote_pass-requires : goal.quote_pass-requires
+quote_pass-requires c = let x = c.args in
     let p = c.requires in
     let z = source-taken x.text.now _ _ c.set_cells.ensures in
     let q = c.set_cells.auto in
-    ((((omega arith, omega arith), ((omega (arith, p.0.0.1.0, q.work), omega (arith, p.0.0.1.1, q.numbers)), (omega arith, (omega arith, omega (arith, p.0.0.0)))))), ap too_deep z ∙ p.0.1)
+    ((((omega arith, omega arith), ((omega (arith, p.0.1.0, q.work), omega (arith, p.0.1.1, q.numbers)), (omega arith, (omega arith, omega (arith, p.0.0)))))), ap too_deep z ∙ p.1)
 
-pub lay_result-requires : goal.lay_result-requires
-lay_result-requires c = let x = c.args in
-    let p = c.requires in
+pub returns-in_err-passed : goal.returns-in_err-passed
+returns-in_err-passed c = let x = c.args in
     let z = source-taken x.text.now _ _ c.set_cells.ensures in
-    let q = c.quote_pass-passed in
+    let q = c.in_err-passed.ensures in
+    let e = err_from_is_err_and c.from_residual.result c.from_residual.ensures.1 in
+    let v = rw q.ok_part at q.value in
+    let r : c.in_err-passed.field-0.0 ≡ NoSpace = cc in
+    rw (e.1, e.2) (written-full x.text.now _ [] _ _ x.out.now x.origins.now z refl x.out.now x.origins.now (rw q.ok_part at c.quote_pass.ensures) r)
+
+pub lay_part-requires : goal.lay_part-requires
+lay_part-requires c = let p = c.requires in
+    let d = rw c.in_ok-passed.ensures.ok_part at c.quote_pass.ensures in
+    let w = quoted-within _ _ _ _ d.0.0 d.1.0 in
     let s = c.set_cells.auto in
-    let d = rw c.in-Done.is at q.ensures in
-    let w = quoted-within _ _ _ _ d.0.0 d.1.0 in
-    ((w.0, (omega (arith, w.1, p.0.0.1.0, s.work, q.auto.work), omega (arith, w.1, p.0.0.1.1, s.numbers, q.auto.numbers))), (omega (arith, w.1), omega (arith, w.1, p.0.0.0)))
+    let q = c.quote_pass.auto in
+    ((w.0, (omega (arith, w.1, p.0.1.0, s.work, q.work), omega (arith, w.1, p.0.1.1, s.numbers, q.numbers))), (omega (arith, w.1), omega (arith, w.1, p.0.0)))
 
-pub returns-in-Full : goal.returns-in-Full
-returns-in-Full c = let x = c.args in
-    let p = c.requires in
+pub returns : goal.returns
+returns c = let x = c.args in
     let z = source-taken x.text.now _ _ c.set_cells.ensures in
-    let q = c.quote_pass-passed in
-    let f = rw c.in-Full.is at q.ensures in
-    let r = c.refuse.ensures in
-    written-full x.text.now _ [] _ _ _ z refl f r.0 r.1
-
-pub returns-in-Done : goal.returns-in-Done
-returns-in-Done c = let x = c.args in
-    let p = c.requires in
-    let z = source-taken x.text.now _ _ c.set_cells.ensures in
-    let q = c.quote_pass-passed in
-    let d = rw c.in-Done.is at q.ensures in
+    let d = rw c.in_ok-passed.ensures.ok_part at c.quote_pass.ensures in
     let w = quoted-within _ _ _ _ d.0.0 d.1.0 in
-    let r = c.lay_result.ensures in
-    written-done x.text.now _ _ _ _ _ z refl x.loss_bytes.now _ _ _ _ d w.1 p.1 refl r.0 r.1.0 r.1.1
+    written-done x.text.now _ _ _ _ x.out.now x.origins.now z refl _ d w.1 c.lay_part.ensures
