@@ -6,9 +6,5 @@ pub fn move_front(numbers: &mut [u32], a: usize, n: usize)
     requires { a + n ≤ length numbers.old }
     ensures { take n numbers.new ≡ take n (drop a numbers.old) }
 {
-    let mut i: usize = 0;
-    while i < n {
-        numbers[i] = numbers[a + i];
-        i += 1;
-    }
+    numbers.copy_within(a..a + n, 0);
 }

@@ -10,14 +10,12 @@ use text::PostAt;
 pub fn no_quotes(s: &[u8]) -> bool
     ensures { result ≡ true → Unquoted s.now }
 {
-    let next = next_tag(s, PostAt(0));
-    s.len() <= next.0
+    s.len() <= next_tag(s, PostAt(0)).0
 }
 
 // Whether no list opener may begin anywhere: the other tags of lists stay text without one.
 pub fn no_lists(s: &[u8]) -> bool
     ensures { result ≡ true → Unlisted s.now }
 {
-    let next = next_opener(s, PostAt(0), b'l', 0);
-    s.len() <= next.0
+    s.len() <= next_opener(s, PostAt(0), b'l', 0).0
 }
