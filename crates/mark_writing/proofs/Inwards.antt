@@ -113,21 +113,25 @@ both {src} {src'} {ns} {ns'} P e f p = subst (λ (l : List ℕ). P l ns') e (sub
 pub code-as : {src src' ns ns' : List ℕ} (i : ℕ) → src ≡ src' → ns ≡ ns' → get_or ns (2 * length src + 2 + i) 0 ≡ get_or ns' (2 * length src' + 2 + i) 0
 code-as {src} {src'} {ns} {ns'} i e f = both (λ s n. get_or ns (2 * length src + 2 + i) 0 ≡ get_or n (2 * length s + 2 + i) 0) e f refl
 
-pub next-as : {src src' ns ns' : List ℕ} {n : Next} (k i : ℕ) → src ≡ src' → ns ≡ ns' → n ≡ next (within (slot_at src ns k i)) → n ≡ next (within (slot_at src' ns' k i))
-next-as {src} {src'} {ns} {ns'} {n} k i e f p = both (λ s t. n ≡ next (within (slot_at s t k i))) e f p
+-- and of as many items
+three : {src src' ns ns' : List ℕ} {k k' : ℕ} (P : List ℕ → List ℕ → ℕ → Type 0) → src ≡ src' → ns ≡ ns' → k ≡ k' → P src ns k → P src' ns' k'
+three {src} {src'} {ns} {ns'} {k} {k'} P e f g p = subst (P src' ns') g (both (λ s n. P s n k) e f p)
 
-pub looked-as : {src src' ns ns' : List ℕ} (k i : ℕ) (x : Seen) → src ≡ src' → ns ≡ ns' → Looked src ns k i x → Looked src' ns' k i x
-looked-as k i x e f p = both (λ s n. Looked s n k i x) e f p
+pub next-as : {src src' ns ns' : List ℕ} {k k' : ℕ} {n : Next} (i : ℕ) → src ≡ src' → ns ≡ ns' → k ≡ k' → n ≡ next (within (slot_at src ns k i)) → n ≡ next (within (slot_at src' ns' k' i))
+next-as {n = n} i e f g p = three (λ s t l. n ≡ next (within (slot_at s t l i))) e f g p
+
+pub looked-as : {src src' ns ns' : List ℕ} {k k' : ℕ} (i : ℕ) (x : Seen) → src ≡ src' → ns ≡ ns' → k ≡ k' → Looked src ns k i x → Looked src' ns' k' i x
+looked-as i x e f g p = three (λ s n l. Looked s n l i x) e f g p
+
+pub ready-as : {src src' ns ns' : List ℕ} {k k' : ℕ} {i depth : ℕ} → src ≡ src' → ns ≡ ns' → k ≡ k' → Ready src ns k i depth → Ready src' ns' k' i depth
+ready-as {i = i} {depth = depth} e f g p = three (λ s n l. Ready s n l i depth) e f g p
+
+pub one-text-as : {src src' ns ns' : List ℕ} {k k' from : ℕ} → src ≡ src' → ns ≡ ns' → k ≡ k' → OneText src ns k from → OneText src' ns' k' from
+one-text-as {from = from} e f g p = three (λ s n l. OneText s n l from) e f g p
 
 module _ {src src' ns ns' : List ℕ} {k : ℕ} (e : src ≡ src') (f : ns ≡ ns') where
   pub held-as : Held src ns k → Held src' ns' k
   held-as p = both (λ s n. Held s n k) e f p
-
-  pub ready-as : {i depth : ℕ} → Ready src ns k i depth → Ready src' ns' k i depth
-  ready-as {i} {depth} p = both (λ s n. Ready s n k i depth) e f p
-
-  pub one-text-as : {from : ℕ} → OneText src ns k from → OneText src' ns' k from
-  one-text-as {from} p = both (λ s n. OneText s n k from) e f p
 
   pub slot-as : {from mask : ℕ} {out org : List ℕ} {c : ℕ} → Slot src ns k from mask out org c → Slot src' ns' k from mask out org c
   slot-as {from} {mask} {out} {org} {c} p = both (λ s n. Slot s n k from mask out org c) e f p

@@ -3,14 +3,14 @@
 --   table w ns     the codes of its cells, and its items behind them
 --   area w bs ns   the cells of the area
 --   Lies w m       the text stands behind the area, in m work bytes
---   TableIn, HeldIn, ReadyIn    the items stand there
+--   TableIn, HeldIn    the items stand there
 --   SlotAsked, SlotDone ..      what writing a slot is asked, and what it does: a slot, one that is one text, a mark, a mark whose body is written
 -- Assumes nothing.
 use Rattle.std.specs.Prelude.{List, ℕ, ◌+◌, ◌*◌, ◌≤◌, length, take, drop}
 use Rattle.text.specs.Bounds.{text_most, number_most}
 use Rattle.text.specs.Cells.{Cell, cells}
 use Rattle.text.specs.Writes.{cut}
-use Rattle.mark_tags.specs.Flat.{Held, Ready}
+use Rattle.mark_tags.specs.Flat.{Held}
 use Rattle.mark_pieces.specs.Spans.{Slot, SlotWritten, MarkReady, MarkWritten}
 use Rattle.mark_pieces.specs.Behind.{Behind}
 use Rattle.mark_writing.specs.Bodied.{Bodied}
@@ -41,9 +41,6 @@ pub record TableIn (w : Layout) (ns : List ℕ) : Type 0 where
 
 abbrev pub HeldIn : Layout → (bs ns : List ℕ) → Type 0
 HeldIn w bs ns = Held (source w bs) (table w ns) w.items × Lies w (length bs)
-
-abbrev pub ReadyIn : Layout → (bs ns : List ℕ) → (i depth : ℕ) → Type 0
-ReadyIn w bs ns i depth = Ready (source w bs) (table w ns) w.items i depth × Lies w (length bs)
 
 -- ---- a slot
 

@@ -1,3 +1,4 @@
+pub mod Table
 pub mod OneText
 pub mod Bodied
 pub mod Looked

@@ -1,5 +1,5 @@
 // Tags to marks: looking through a slot and writing it.
 #![tactic(auto)]
 
-pub mod look;
+mod look;
 pub mod slot;

@@ -1,12 +1,8 @@
 // Writing a slot, whose text stands in work memory behind the area that it is written into. A slot is given by the number of its first item.
-ghost use Rattle.std.specs.Prelude.{◌≡◌, true, cond, ◌+◌, ◌*◌, ◌%◌, ◌≤◌, ◌<◌, get_or};
-ghost use Rattle.mark_tags.specs.Marks.{next};
-ghost use Rattle.mark_tags.specs.Flat.{within, slot_at};
-ghost use Rattle.mark_writing.specs.Looked.{as_next, Looked};
-ghost use Rattle.mark_writing.specs.OneText.{OneText};
-ghost use Rattle.mark_writing.specs.Laid.{source, table, TableIn, HeldIn, ReadyIn, SlotAsked, SlotDone, TextAsked, TextDone, MarkAsked, MarkDone, BodyAsked, BodyDone};
+ghost use Rattle.std.specs.Prelude.{◌≡◌, cond, ◌+◌, ◌*◌, ◌%◌, ◌≤◌, ◌<◌, get_or};
+ghost use Rattle.mark_writing.specs.Laid.{source, table, TableIn, HeldIn, SlotAsked, SlotDone, TextAsked, TextDone, MarkAsked, MarkDone, BodyAsked, BodyDone};
 
-use crate::look::{Next, Seen, is_one_text, look, next_of};
+use crate::look::{Items, Seen};
 use mark_items::items::bit_of;
 use mark_pieces::mark::{Body, delimiter_of, finish_mark};
 use mark_pieces::piece::write_piece;
@@ -21,6 +17,21 @@ pub struct Layout {
     pub size: usize,
     pub items: usize,
     pub end: usize,
+}
+
+impl Layout {
+    // The items of the text.
+    fn items_of<'a>(self, work: &'a [u8], numbers: &'a [u32]) -> Items<'a>
+        requires { HeldIn self work.now numbers.now }
+        ensures { (result.text.now ≡ source self work.now) × ((result.nums.now ≡ table self numbers.now) × (result.k ≡ self.items)) }
+    {
+        let base = self.base.0;
+        Items {
+            text: &work[base..base + self.size],
+            nums: &numbers[base..],
+            k: self.items,
+        }
+    }
 }
 
 // Where writing a slot ended: the item behind it, the place in the area, how many span numbers are listed.
@@ -57,45 +68,6 @@ pub fn last_of(braces: bool, d: u8) -> usize
     ensures { result ≡ cond braces 125 d }
 {
     usize::from(if braces { b'}' } else { d })
-}
-
-// Looks at item i.
-fn seen_at(work: &[u8], numbers: &[u32], w: Layout, i: usize, depth: usize) -> Seen
-    requires { ReadyIn w work.now numbers.now i depth × (i < w.items) }
-    ensures { Looked (source w work.now) (table w numbers.now) w.items i result }
-{
-    let base = w.base.0;
-    look(
-        &work[base..base + w.size],
-        &numbers[base..],
-        w.items,
-        i,
-        depth,
-    )
-}
-
-// What is written next from item `from` on.
-fn next_at(work: &[u8], numbers: &[u32], w: Layout, from: usize, depth: usize) -> Next
-    requires { ReadyIn w work.now numbers.now from depth }
-    ensures { as_next result ≡ next (within (slot_at (source w work.now) (table w numbers.now) w.items from)) }
-{
-    let base = w.base.0;
-    next_of(
-        &work[base..base + w.size],
-        &numbers[base..],
-        w.items,
-        from,
-        depth,
-    )
-}
-
-// Whether the slot that starts at item `from` is one text that is not empty, and ends.
-fn is_text_at(work: &[u8], numbers: &[u32], w: Layout, from: usize) -> bool
-    requires { HeldIn w work.now numbers.now × (from ≤ w.items) }
-    ensures { result ≡ true → OneText (source w work.now) (table w numbers.now) w.items from }
-{
-    let base = w.base.0;
-    is_one_text(&work[base..base + w.size], &numbers[base..], w.items, from)
 }
 
 // The kind of the mark that starts at item i.
@@ -161,7 +133,7 @@ fn end_mark(
         };
     }
     let depth = 4 - u32::count_ones(mark.mask) as usize;
-    let next = next_at(&work[..], &numbers[..], w, item, depth);
+    let next = w.items_of(&work[..], &numbers[..]).next_of(item, depth);
     let start = mark.start;
     let whole = Body {
         start,
@@ -216,7 +188,7 @@ pub fn write_mark(
         start: at,
         count,
     };
-    if is_text_at(&work[..], &numbers[..], w, i + 1) {
+    if w.items_of(&work[..], &numbers[..]).is_one_text(i + 1) {
         let body = write_text(work, numbers, w, i + 1, start, count + 2);
         return end_mark(work, numbers, w, mark, spans, body);
     }
@@ -256,7 +228,7 @@ pub fn write_slot(
     let mut before: usize = 256;
     let mut guarded = false;
     while i < k {
-        match seen_at(&work[..], &numbers[..], w, i, depth) {
+        match w.items_of(&work[..], &numbers[..]).look(i, depth) {
             Seen::End => {
                 return Went {
                     item: i + 1,

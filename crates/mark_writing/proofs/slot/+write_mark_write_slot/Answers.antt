@@ -1,24 +1,29 @@
 use native.Mathlib.Omega.{arith}
-use mathlib.Core.Path.{refl, sym}
+use mathlib.Core.Path.{refl, sym, ◌∙◌}
 use Rattle.mark_writing.specs.declared.look.Seen.TheVariants.{End, Text, Skip, Mark}
 use Rattle.mark_writing.specs.Laid.{source, table}
 use Rattle.mark_writing.proofs.SlotWriting.{drawing-start, drawn-end, drawn-leave, drawn-mark}
 use Rattle.mark_writing.proofs.SlotAsking.{ones-few, fresh-ready}
 use Rattle.mark_writing.proofs.MarkWriting.{spans-few}
-use Rattle.mark_writing.proofs.Inwards.{behind-none, behind-then, behind-appends, same_source, same-table, area_same, area-cells, source-size, table-in, piece-area, lies-on, ready-as, looked-as, mark-ready-as, mark-written-as, piece_inside, drawn-skip, drawn-piece}
+use Rattle.mark_writing.proofs.Inwards.{behind-none, behind-then, behind-appends, same_source, same-table, area_same, area-cells, source-size, table-in, piece-area, lies-on, held-as, ready-as, one-text-as, looked-as, mark-ready-as, mark-written-as, piece_inside, drawn-skip, drawn-piece}
 use Rattle.mark_writing.proofs.MarkEnding.{opened-held, slot-asked, slot-falls, body-asked, mark-done}
 use Rattle.mark_writing.proofs.slot.+write_mark_write_slot.Goals as goal
 
-pub write_mark-is_text_at-requires : goal.write_mark-is_text_at-requires
-write_mark-is_text_at-requires t c =
+pub write_mark-items_of-requires : goal.write_mark-items_of-requires
+write_mark-items_of-requires t c =
     let o = c.put_sign_in-start in
+    opened-held c.args.w c.requires c.kind_at-kind.ensures c.delimiter_of-d.ensures o.ensures o.auto.buf o.auto.nums
+
+pub write_mark-is_one_text-requires : goal.write_mark-is_one_text-requires
+write_mark-is_one_text-requires t c =
     let h = c.requires.0.inside in
-    (opened-held c.args.w c.requires c.kind_at-kind.ensures c.delimiter_of-d.ensures o.ensures o.auto.buf o.auto.nums, omega arith)
+    let n = c.items_of.ensures.1.1 in
+    omega arith
 
 pub write_mark-write_text-body-requires : goal.write_mark-write_text-body-requires
 write_mark-write_text-body-requires t c =
     let o = c.put_sign_in-start in
-    (opened-held c.args.w c.requires c.kind_at-kind.ensures c.delimiter_of-d.ensures o.ensures o.auto.buf o.auto.nums, c.is_text_at.ensures c.if-is_text_at.true)
+    (opened-held c.args.w c.requires c.kind_at-kind.ensures c.delimiter_of-d.ensures o.ensures o.auto.buf o.auto.nums, one-text-as c.items_of.ensures.0 c.items_of.ensures.1.0 c.items_of.ensures.1.1 (c.is_one_text.ensures c.if-is_one_text.true))
 
 pub write_mark-end_mark-requires : goal.write_mark-end_mark-requires
 write_mark-end_mark-requires t c =
@@ -26,8 +31,8 @@ write_mark-end_mark-requires t c =
     let b = c.write_text-body in
     body-asked c.args.w c.requires c.kind_at-kind.ensures c.delimiter_of-d.ensures o.ensures o.auto.buf o.auto.nums b.auto.work b.auto.numbers refl (b.ensures.0 c.args.spans.now) b.ensures.1
 
-pub write_mark-returns-then-is_text_at : goal.write_mark-returns-then-is_text_at
-write_mark-returns-then-is_text_at t c =
+pub write_mark-returns-then-is_one_text : goal.write_mark-returns-then-is_one_text
+write_mark-returns-then-is_one_text t c =
     let o = c.put_sign_in-start in
     let b = c.write_text-body in
     mark-done c.args.w c.requires c.kind_at-kind.ensures c.delimiter_of-d.ensures o.ensures o.auto.buf o.auto.nums b.auto.work b.auto.numbers refl (b.ensures.0 c.args.spans.now) b.ensures.1 c.end_mark.ensures
@@ -56,22 +61,32 @@ write_slot-overflow_sub-depth t c = ones-few c.args.mask c.requires.0.small
 pub write_slot-loop-i-init : goal.write_slot-loop-i-init
 write_slot-loop-i-init t c = (drawing-start _ _ _ _ _ _ _ _ _ _ _ c.requires.0, behind-none _ _ _)
 
-pub write_slot-seen_at-requires : goal.write_slot-seen_at-requires
-write_slot-seen_at-requires t c =
+pub write_slot-items_of-requires : goal.write_slot-items_of-requires
+write_slot-items_of-requires t c =
+    let a = c.args in
+    let bh = c.requires.1.behind in
+    let l = c.loop-i in
+    (held-as (sym (same_source a.w bh l.invariant.1)) (sym (same-table a.w bh l.invariant.1)) c.requires.0.table, lies-on c.requires.1 l.auto.work)
+
+pub write_slot-look-requires : goal.write_slot-look-requires
+write_slot-look-requires t c =
     let a = c.args in
     let sl = c.requires.0 in
     let bh = c.requires.1.behind in
     let l = c.loop-i in
-    let zs = same_source a.w bh l.invariant.1 in
-    let zt = same-table a.w bh l.invariant.1 in
-    ((ready-as (sym zs) (sym zt) (fresh-ready (source a.w a.work.now) (table a.w a.numbers.now) a.w.items l.i a.mask sl.table l.invariant.0.up_to sl.small l.invariant.0.fresh), lies-on c.requires.1 l.auto.work), omega arith)
+    let o = c.items_of.ensures in
+    let n = o.1.1 in (
+      ready-as (sym (o.0 ∙ same_source a.w bh l.invariant.1)) (sym (o.1.0 ∙ same-table a.w bh l.invariant.1)) (sym n)
+          (fresh-ready (source a.w a.work.now) (table a.w a.numbers.now) a.w.items l.i a.mask sl.table l.invariant.0.up_to sl.small l.invariant.0.fresh),
+      omega arith,
+    )
 
 pub write_slot-returns-in-End : goal.write_slot-returns-in-End
 write_slot-returns-in-End t c =
     let a = c.args in
     let bh = c.requires.1.behind in
     let l = c.loop-i in
-    let lk = looked-as a.w.items l.i End (same_source a.w bh l.invariant.1) (same-table a.w bh l.invariant.1) c.in-End.ensures in
+    let lk = looked-as l.i End (c.items_of.ensures.0 ∙ same_source a.w bh l.invariant.1) (c.items_of.ensures.1.0 ∙ same-table a.w bh l.invariant.1) c.items_of.ensures.1.1 c.in-End.ensures in
     (drawn-leave (source a.w a.work.now) (table a.w a.numbers.now) a.w.items a.from a.mask _ _ _ _ _ _ _ _ l.i l.before l.guarded l.invariant.0 (omega arith) lk, l.invariant.1)
 
 pub write_slot-in_work-from-requires : goal.write_slot-in_work-from-requires
@@ -79,7 +94,7 @@ write_slot-in_work-from-requires t c =
     let a = c.args in
     let ls = c.requires.1 in
     let l = c.loop-i in
-    let lk = looked-as a.w.items l.i (Text c.in-Text.a c.in-Text.e c.in-Text.touches c.in-Text.last) (same_source a.w ls.behind l.invariant.1) (same-table a.w ls.behind l.invariant.1) c.in-Text.ensures in
+    let lk = looked-as l.i (Text c.in-Text.a c.in-Text.e c.in-Text.touches c.in-Text.last) (c.items_of.ensures.0 ∙ same_source a.w ls.behind l.invariant.1) (c.items_of.ensures.1.0 ∙ same-table a.w ls.behind l.invariant.1) c.items_of.ensures.1.1 c.in-Text.ensures in
     let n = source-size a.w a.work.now ls in
     let pc = lk in
     let q = piece_inside c.requires.0.table c.loop-i-test.true pc in
@@ -92,7 +107,7 @@ write_slot-in_work-behind-requires t c =
     let a = c.args in
     let ls = c.requires.1 in
     let l = c.loop-i in
-    let lk = looked-as a.w.items l.i (Text c.in-Text.a c.in-Text.e c.in-Text.touches c.in-Text.last) (same_source a.w ls.behind l.invariant.1) (same-table a.w ls.behind l.invariant.1) c.in-Text.ensures in
+    let lk = looked-as l.i (Text c.in-Text.a c.in-Text.e c.in-Text.touches c.in-Text.last) (c.items_of.ensures.0 ∙ same_source a.w ls.behind l.invariant.1) (c.items_of.ensures.1.0 ∙ same-table a.w ls.behind l.invariant.1) c.items_of.ensures.1.1 c.in-Text.ensures in
     let n = source-size a.w a.work.now ls in
     let q = piece_inside c.requires.0.table c.loop-i-test.true lk in
     let nr = ls.near in
@@ -106,7 +121,7 @@ write_slot-write_piece-to-requires t c =
     let ins = ls.inside in
     let rm = (table-in a.w a.work.now a.numbers.now (c.requires.0.table, ls)).room in
     let l = c.loop-i in
-    let lk = looked-as a.w.items l.i (Text c.in-Text.a c.in-Text.e c.in-Text.touches c.in-Text.last) (same_source a.w bh l.invariant.1) (same-table a.w bh l.invariant.1) c.in-Text.ensures in
+    let lk = looked-as l.i (Text c.in-Text.a c.in-Text.e c.in-Text.touches c.in-Text.last) (c.items_of.ensures.0 ∙ same_source a.w bh l.invariant.1) (c.items_of.ensures.1.0 ∙ same-table a.w bh l.invariant.1) c.items_of.ensures.1.1 c.in-Text.ensures in
     let n = source-size a.w a.work.now ls in
     let pc = lk in
     let q = piece_inside c.requires.0.table c.loop-i-test.true pc in
@@ -127,7 +142,7 @@ write_slot-loop-i-preserved-in-Text t c =
     let l = c.loop-i in
     let zs = same_source a.w bh l.invariant.1 in
     let zt = same-table a.w bh l.invariant.1 in
-    let lk = looked-as a.w.items l.i (Text c.in-Text.a c.in-Text.e c.in-Text.touches c.in-Text.last) zs zt c.in-Text.ensures in
+    let lk = looked-as l.i (Text c.in-Text.a c.in-Text.e c.in-Text.touches c.in-Text.last) (c.items_of.ensures.0 ∙ zs) (c.items_of.ensures.1.0 ∙ zt) c.items_of.ensures.1.1 c.in-Text.ensures in
     let n = source-size a.w a.work.now ls in
     let pc = lk in
     let q = piece_inside c.requires.0.table c.loop-i-test.true pc in
@@ -146,7 +161,7 @@ write_slot-loop-i-preserved-in-Skip t c =
     let a = c.args in
     let bh = c.requires.1.behind in
     let l = c.loop-i in
-    let lk = looked-as a.w.items l.i (Skip c.in-Skip.item) (same_source a.w bh l.invariant.1) (same-table a.w bh l.invariant.1) c.in-Skip.ensures in
+    let lk = looked-as l.i (Skip c.in-Skip.item) (c.items_of.ensures.0 ∙ same_source a.w bh l.invariant.1) (c.items_of.ensures.1.0 ∙ same-table a.w bh l.invariant.1) c.items_of.ensures.1.1 c.in-Skip.ensures in
     (drawn-skip (source a.w a.work.now) (table a.w a.numbers.now) a.w.items a.from a.mask _ _ _ _ _ _ _ _ l.i l.before l.guarded l.invariant.0 c.loop-i-test.true c.requires.0.table _ lk, l.invariant.1)
 
 pub write_slot-write_mark-mark-requires : goal.write_slot-write_mark-mark-requires
@@ -160,7 +175,7 @@ write_slot-write_mark-mark-requires t c =
     let l = c.loop-i in
     let zs = same_source a.w bh l.invariant.1 in
     let zt = same-table a.w bh l.invariant.1 in
-    let lk = looked-as a.w.items l.i Mark zs zt c.in-Mark.ensures in
+    let lk = looked-as l.i Mark (c.items_of.ensures.0 ∙ zs) (c.items_of.ensures.1.0 ∙ zt) c.items_of.ensures.1.1 c.in-Mark.ensures in
     let mk = lk in
     let x = area_same a.w.end a.work.now l.work (omega arith) l.auto.work in
     let y = area_same a.w.end a.numbers.now l.numbers (omega arith) l.auto.numbers in
@@ -189,7 +204,7 @@ write_slot-loop-i-preserved t c =
     let l = c.loop-i in
     let zs = same_source a.w bh l.invariant.1 in
     let zt = same-table a.w bh l.invariant.1 in
-    let lk = looked-as a.w.items l.i Mark zs zt c.in-Mark.ensures in
+    let lk = looked-as l.i Mark (c.items_of.ensures.0 ∙ zs) (c.items_of.ensures.1.0 ∙ zt) c.items_of.ensures.1.1 c.in-Mark.ensures in
     let mk = lk in
     let kb = l.auto.work in
     let kn = l.auto.numbers in

@@ -1,12 +1,12 @@
 use Prim.Native.Nat.{◌-◌}
 use Rattle.mark_writing.proofs.Looking.{Here}
-use Rattle.mark_writing.proofs.look.+content.Given as goal
+use Rattle.mark_writing.proofs.look.Items.+content.Given as goal
 
 abbrev pub decreases-content : goal.decreases-content
 decreases-content l = l.depth
 
 abbrev pub invariant-loop-i : goal.invariant-loop-i
-invariant-loop-i l = Here l.text l.nums l.k l.from l.depth l.i
+invariant-loop-i l = Here l.self.text.now l.self.nums.now l.self.k l.from l.depth l.i
 
 abbrev pub decreases-loop-i : goal.decreases-loop-i
-decreases-loop-i l = l.k - l.i
+decreases-loop-i l = l.self.k - l.i
