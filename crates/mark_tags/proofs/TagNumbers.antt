@@ -3,7 +3,8 @@ use mathlib.Core.Path.{◌≡◌, refl, sym, ap, ◌∙◌}
 use mathlib.Core.Option.{Option, none, some}
 use mathlib.Core.List.{List}
 use mathlib.Core.Bool.{Bool, true, false, cond, ◌&&◌, ◌||◌, true≢false}
-use Prim.Native.Nat.{ℕ, ◌+◌, ◌-◌, ◌*◌, ◌/◌, ◌^◌, ◌≤◌, ◌<◌}
+use Rattle.std.specs.Int.{from_bool}
+use Prim.Native.Nat.{ℕ, zero, suc, ◌+◌, ◌-◌, ◌*◌, ◌/◌, ◌%◌, ◌^◌, ◌≤◌, ◌<◌}
 use native.Mathlib.Nat.{add-zero}
 use native.Mathlib.Omega.{arith}
 use lib.Bits.{bit_and, bit_or, and_le_r}
@@ -13,7 +14,11 @@ use lib.Seq.{get_or-drop}
 use borrow.Author.Tests.{ltb-true, ltb-false, ne_eqb}
 use Rattle.text.proofs.Table.{below}
 use Rattle.mark_tags.specs.Marks.{Kind, bold, italic, underline, strike, Tag, opener, closer, kind_of, tag_of, tag_of_bytes, tag_at}
-use Rattle.mark_tags.specs.Flat.{kind_number, kind_numbered, letter_number, tag_number}
+use Rattle.mark_tags.specs.Flat.{kind_number, kind_numbered, letter_number, tag_number, bit_of}
+
+pub bit-cond : (b : Bool) → from_bool b ≡ cond b 1 0
+bit-cond true = refl
+bit-cond false = refl
 
 pub kind-small : (k : Kind) → kind_number k < 4
 kind-small bold = omega arith
@@ -21,12 +26,23 @@ kind-small italic = omega arith
 kind-small underline = omega arith
 kind-small strike = omega arith
 
+pub numbered-kind : (n : ℕ) → n < 4 → kind_number (kind_numbered n) ≡ n
+unfolding kind_numbered
+numbered-kind zero h = refl
+numbered-kind (suc zero) h = refl
+numbered-kind (suc (suc zero)) h = refl
+numbered-kind (suc (suc (suc zero))) h = refl
+numbered-kind (suc (suc (suc (suc n)))) h = absurd (omega arith)
+
 pub kind-numbered : (k : Kind) → kind_numbered (kind_number k) ≡ k
 unfolding kind_numbered
 kind-numbered bold = refl
 kind-numbered italic = refl
 kind-numbered underline = refl
 kind-numbered strike = refl
+
+pub bit-numbered : (k : Kind) (n : ℕ) → k ≡ kind_numbered (n % 4) → bit_of (kind_number k) ≡ bit_of (n % 4)
+bit-numbered k n e = ap (λ (j : Kind). bit_of (kind_number j)) e ∙ ap bit_of (numbered-kind (n % 4) (omega arith))
 
 -- the kind in the low four bits of a small letter, if it is the letter of that kind
 abbrev packed_kind : ℕ → ℕ

@@ -1,39 +1,22 @@
 // Reading tags: `[`, letter, `]`, or `[`, `/`, letter, `]`.
-ghost use Rattle.std.specs.Prelude.{◌≡◌, cond, ◌<◌, length, drop};
+ghost use Rattle.std.specs.Prelude.{◌≡◌, ◌<◌, length, drop};
 ghost use Rattle.mark_tags.specs.Marks.{kind_of, tag_of_bytes, tag_at};
 ghost use Rattle.mark_tags.specs.Flat.{letter_number, tag_number};
 
-use text::scan::one_if;
+use std::hint::select_unpredictable;
+use text::scan::byte_at;
 
-// The kind where the letter is that kind's, else 4.
-fn kind_if(same: bool, kind: u32) -> u32
-    ensures { result ≡ cond same kind 4 }
-{
-    if same {
-        return kind;
-    }
-    4
-}
-
-// The kind that a letter names, as a number; 4 where there is none. Tables in two numbers: branches on the letter would be mispredicted.
+// The kind that a letter names, as a number; 4 where there is none: a tag's number is the code of its item. Tables in two numbers: branches on the
+// letter would be mispredicted.
 fn kind_of(a: u8) -> u32
     ensures { result ≡ letter_number (kind_of a) }
 {
-    let small = a as u32 | 0x20;
+    let small = u32::from(a) | 0x20;
     // the low four bits of b, i, u and s differ: at each of them stands its kind, of two bits
     let kind = (0x408c0 >> (2 * (small & 15))) & 3;
     // the letter of each kind
     let letter = (0x73756962 >> (8 * kind)) & 255;
-    kind_if(small == letter, kind)
-}
-
-fn either(yes: bool, a: u8, b: u8) -> u8
-    ensures { result ≡ cond yes a b }
-{
-    if yes {
-        return a;
-    }
-    b
+    select_unpredictable(small == letter, kind, 4)
 }
 
 // The tag that starts with these four bytes, as a number; 0 where there is none. One branch for all tags, likewise.
@@ -42,9 +25,9 @@ fn tag_of(a: u8, b: u8, c: u8, d: u8) -> u32
 {
     let opens = c == b']';
     let whole = opens | ((b == b'/') & (d == b']'));
-    let k = kind_of(either(opens, b, c));
+    let k = kind_of(select_unpredictable(opens, b, c));
     if (a == b'[') & whole & (k < 4) {
-        return 12 + k - 4 * one_if(opens);
+        return 12 + k - 4 * u32::from(opens);
     }
     0
 }
@@ -58,10 +41,5 @@ pub fn tag_at(s: &[u8], i: usize) -> u32
     if a != b'[' {
         return 0;
     }
-    tag_of(
-        a,
-        text::scan::byte_at(s, i + 1),
-        text::scan::byte_at(s, i + 2),
-        text::scan::byte_at(s, i + 3),
-    )
+    tag_of(a, byte_at(s, i + 1), byte_at(s, i + 2), byte_at(s, i + 3))
 }
