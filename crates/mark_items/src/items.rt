@@ -4,8 +4,9 @@
 ghost use Rattle.std.specs.Prelude.{◌≡◌, [], ◌+◌, ◌*◌, ◌≤◌, ◌<◌, length};
 ghost use Rattle.text.specs.Bounds.{text_most};
 ghost use Rattle.mark_tags.specs.Marks.{ends, no-kinds};
-ghost use Rattle.mark_tags.specs.Flat.{numbered_tag, code_of, width_of, stack_of, with_item, Stacked, Tagged, settled, SettledItem, merged, MergedItem, bit_of, Recodes, Itemed};
+ghost use Rattle.mark_tags.specs.Flat.{numbered_tag, code_of, width_of, stack_of, with_item, Stacked, Tagged, settled, SettledItem, merged, MergedItem, Recodes, Itemed};
 
+use mark_tags::kind::Kind;
 use mark_tags::tags::tag_at;
 use text::PostAt;
 use text::scan::next_byte;
@@ -126,22 +127,6 @@ pub struct Open {
     pub depth: usize,
 }
 
-// The bit of a kind.
-pub fn bit_of(kind: u32) -> u32
-    ensures { result ≡ bit_of kind }
-{
-    if kind == 0 {
-        return 1;
-    }
-    if kind == 1 {
-        return 2;
-    }
-    if kind == 2 {
-        return 4;
-    }
-    8
-}
-
 // Merges item j: a mark inside one of its own kind vanishes.
 fn merge_item(nums: &mut [u32], n: usize, j: usize, state: Open) -> Open
     requires { ((j ≤ n) × ((state.depth ≤ j) × (state.mask < 16))) × ((n ≤ text_most) × (4 * n + 4 ≤ length nums.old)) }
@@ -174,7 +159,7 @@ fn merge_item(nums: &mut [u32], n: usize, j: usize, state: Open) -> Open
     if 8 <= code {
         return state;
     }
-    let bit = bit_of(code % 4);
+    let bit = Kind::of_code(code).bit();
     if mask & bit == 0 {
         nums[3 * n + 3 + depth] = mask;
         return Open {

@@ -3,8 +3,8 @@ ghost use Rattle.std.specs.Prelude.{◌≡◌, true, ◌≤◌, ◌<◌, ◌∷�
 ghost use Rattle.text.specs.Ascii.{is};
 ghost use Rattle.text.specs.Bounds.{out_most};
 ghost use Rattle.text.specs.Cells.{cells};
-ghost use Rattle.mark_tags.specs.Marks.{delimiter, braced, escape_last};
-ghost use Rattle.mark_tags.specs.Flat.{kind_numbered, Becomes, behind_brace};
+ghost use Rattle.mark_tags.specs.Marks.{braced, escape_last};
+ghost use Rattle.mark_tags.specs.Flat.{Becomes, behind_brace};
 ghost use Rattle.mark_pieces.specs.Spans.{raised, Raisable, Finishable, Finished};
 ghost use Rattle.mark_pieces.specs.Behind.{FinishedIn};
 
@@ -12,18 +12,6 @@ use crate::class::is_braced;
 use crate::piece::{insert, is_even};
 use text::WorkAt;
 use text::area::put_sign_in;
-
-// The delimiter of a kind.
-pub fn delimiter_of(kind: u32) -> u8
-    ensures { result ≡ delimiter (kind_numbered kind) }
-{
-    match kind {
-        0 => b'*',
-        1 => b'/',
-        2 => b'_',
-        _ => b'~',
-    }
-}
 
 // Whether the mark whose body stands from place p up to `end` takes the braced form.
 pub fn takes_braces(buf: &[u8], p: WorkAt, end: WorkAt, d: u8, before: usize, next: usize) -> bool

@@ -23,7 +23,7 @@ use Rattle.text.specs.Bounds.{text_most}
 use Rattle.text.specs.Writes.{Holds}
 use Rattle.std.proofs.Math.Option.{Option, none, some}
 use Rattle.text.specs.Cells.{Cell, bytes, cells, part, sign}
-use Rattle.mark_tags.specs.Marks.{Kind, bold, italic, underline, strike, Tag, opener, closer, Tokens, last, cut, scan, Items, end, text, gone, mark, Slots, open-end, closed, front, after, ends, Kinds, kinds, no-kinds, has, add, closing, content, Next, nothing, a_byte, a-mark, marked}
+use Rattle.mark_tags.specs.Marks.{Kind, bold, italic, underline, strike, Tag, opener, closer, Tokens, last, cut, scan, Items, end, text, gone, mark, Slots, open-end, closed, front, after, ends, Kinds, kinds, no-kinds, has, add, closing, content}
 
 pub data Flat : Type 0 where
   piece vanish leave : List Cell → Flat
@@ -263,8 +263,7 @@ pub record Held (src ns : List ℕ) (k : ℕ) : Type 0 where
   pub few : k ≤ length src + 1
   pub bounded : Bounded ns (length src) k
 
--- what the content test is asked of the slot that starts at item `at`, and what it answers: 0 where the slot has content, else 1 + the item
--- behind the slot
+-- what the content test is asked of the slot that starts at item `at`, and what it finds of one that has no content: j is the item behind it
 pub record Ready (src ns : List ℕ) (k at depth : ℕ) : Type 0 where
   pub table : Held src ns k
   pub up_to : at ≤ k
@@ -275,21 +274,6 @@ pub record Empty (src ns : List ℕ) (k at j : ℕ) : Type 0 where
   pub forward : at ≤ j
   pub up_to : j ≤ k
   pub behind : slot_at src ns k j ≡ beyond (slot_at src ns k at)
-
-pub record Answer (src ns : List ℕ) (k at r : ℕ) : Type 0 where
-  pub some : r ≡ 0 → content (within (slot_at src ns k at)) ≡ true
-  pub empty : (j : ℕ) → r ≡ suc j → Empty src ns k at j
-
--- What code holds of `Next`: 256 for nothing, 257 for a mark.
-abbrev pub next_number : Next → ℕ
-next_number nothing = 256
-next_number (a_byte a) = a
-next_number a-mark = 257
-
-pub record NextIs (n : Next) (r : ℕ) : Type 0 where
-  pub number : r ≡ next_number n
-  pub touches : eqb r 257 ≡ marked n
-  pub small : r ≤ 257
 
 -- ---- What code tests and moves
 

@@ -1,3 +1,4 @@
 pub mod Marks
 pub mod Flat
+pub mod Kinds
 pub mod Examples

@@ -1,4 +1,5 @@
 // Tags to marks: the definition of the pass, and reading tags.
 #![tactic(auto)]
 
+pub mod kind;
 pub mod tags;

@@ -1,11 +1,13 @@
 // Writing a slot, whose text stands in work memory behind the area that it is written into. A slot is given by the number of its first item.
 ghost use Rattle.std.specs.Prelude.{◌≡◌, cond, ◌+◌, ◌*◌, ◌%◌, ◌≤◌, ◌<◌, get_or};
+ghost use Rattle.mark_tags.specs.Flat.{kind_numbered};
+ghost use Rattle.mark_tags.specs.Kinds.{as_kind};
 ghost use Rattle.mark_writing.specs.Laid.{source, table, TableIn, HeldIn, SlotAsked, SlotDone, TextAsked, TextDone, MarkAsked, MarkDone, BodyAsked, BodyDone};
 
 use crate::look::{Items, Seen};
-use mark_items::items::bit_of;
-use mark_pieces::mark::{Body, delimiter_of, finish_mark};
+use mark_pieces::mark::{Body, finish_mark};
 use mark_pieces::piece::write_piece;
+use mark_tags::kind::Kind;
 use text::area::{copy_back, put_sign_in};
 use text::{PostAt, WorkAt, in_work};
 
@@ -71,11 +73,11 @@ pub fn last_of(braces: bool, d: u8) -> usize
 }
 
 // The kind of the mark that starts at item i.
-fn kind_at(numbers: &[u32], w: Layout, i: usize) -> u32
+fn kind_at(numbers: &[u32], w: Layout, i: usize) -> Kind
     requires { TableIn w numbers.now × (i < w.items) }
-    ensures { result ≡ get_or (table w numbers.now) (2 * w.size + 2 + i) 0 % 4 }
+    ensures { as_kind result ≡ kind_numbered (get_or (table w numbers.now) (2 * w.size + 2 + i) 0 % 4) }
 {
-    numbers[w.base.0 + (2 * w.size + 2 + i)] % 4
+    Kind::of_code(numbers[w.base.0 + (2 * w.size + 2 + i)])
 }
 
 // Where item j starts.
@@ -179,7 +181,7 @@ pub fn write_mark(
     ensures { MarkDone w work.old numbers.old i before at.0 spans.old count work.new numbers.new spans.new result }
 {
     let kind = kind_at(&numbers[..], w, i);
-    let d = delimiter_of(kind);
+    let d = kind.delimiter();
     let start = put_sign_in(work, numbers, w.end, at, d);
     let mark = Begun {
         mask,
@@ -197,7 +199,7 @@ pub fn write_mark(
         numbers,
         w,
         i + 1,
-        mask | bit_of(kind),
+        mask | kind.bit(),
         start,
         spans,
         count + 2,

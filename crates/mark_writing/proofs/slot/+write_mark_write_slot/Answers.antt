@@ -1,5 +1,7 @@
 use native.Mathlib.Omega.{arith}
-use mathlib.Core.Path.{refl, sym, ◌∙◌}
+use mathlib.Core.Path.{refl, sym, ap, ◌∙◌}
+use Rattle.mark_tags.specs.Marks.{delimiter}
+use Rattle.mark_tags.proofs.TagNumbers.{bit-numbered}
 use Rattle.mark_writing.specs.declared.look.Seen.TheVariants.{End, Text, Skip, Mark}
 use Rattle.mark_writing.specs.Laid.{source, table}
 use Rattle.mark_writing.proofs.SlotWriting.{drawing-start, drawn-end, drawn-leave, drawn-mark}
@@ -12,7 +14,7 @@ use Rattle.mark_writing.proofs.slot.+write_mark_write_slot.Goals as goal
 pub write_mark-items_of-requires : goal.write_mark-items_of-requires
 write_mark-items_of-requires t c =
     let o = c.put_sign_in-start in
-    opened-held c.args.w c.requires c.kind_at-kind.ensures c.delimiter_of-d.ensures o.ensures o.auto.buf o.auto.nums
+    opened-held c.args.w c.requires refl (c.delimiter-d.ensures ∙ ap delimiter c.kind_at-kind.ensures) o.ensures o.auto.buf o.auto.nums
 
 pub write_mark-is_one_text-requires : goal.write_mark-is_one_text-requires
 write_mark-is_one_text-requires t c =
@@ -23,37 +25,37 @@ write_mark-is_one_text-requires t c =
 pub write_mark-write_text-body-requires : goal.write_mark-write_text-body-requires
 write_mark-write_text-body-requires t c =
     let o = c.put_sign_in-start in
-    (opened-held c.args.w c.requires c.kind_at-kind.ensures c.delimiter_of-d.ensures o.ensures o.auto.buf o.auto.nums, one-text-as c.items_of.ensures.0 c.items_of.ensures.1.0 c.items_of.ensures.1.1 (c.is_one_text.ensures c.if-is_one_text.true))
+    (opened-held c.args.w c.requires refl (c.delimiter-d.ensures ∙ ap delimiter c.kind_at-kind.ensures) o.ensures o.auto.buf o.auto.nums, one-text-as c.items_of.ensures.0 c.items_of.ensures.1.0 c.items_of.ensures.1.1 (c.is_one_text.ensures c.if-is_one_text.true))
 
 pub write_mark-end_mark-requires : goal.write_mark-end_mark-requires
 write_mark-end_mark-requires t c =
     let o = c.put_sign_in-start in
     let b = c.write_text-body in
-    body-asked c.args.w c.requires c.kind_at-kind.ensures c.delimiter_of-d.ensures o.ensures o.auto.buf o.auto.nums b.auto.work b.auto.numbers refl (b.ensures.0 c.args.spans.now) b.ensures.1
+    body-asked c.args.w c.requires refl (c.delimiter-d.ensures ∙ ap delimiter c.kind_at-kind.ensures) o.ensures o.auto.buf o.auto.nums b.auto.work b.auto.numbers refl (b.ensures.0 c.args.spans.now) b.ensures.1
 
 pub write_mark-returns-then-is_one_text : goal.write_mark-returns-then-is_one_text
 write_mark-returns-then-is_one_text t c =
     let o = c.put_sign_in-start in
     let b = c.write_text-body in
-    mark-done c.args.w c.requires c.kind_at-kind.ensures c.delimiter_of-d.ensures o.ensures o.auto.buf o.auto.nums b.auto.work b.auto.numbers refl (b.ensures.0 c.args.spans.now) b.ensures.1 c.end_mark.ensures
+    mark-done c.args.w c.requires refl (c.delimiter-d.ensures ∙ ap delimiter c.kind_at-kind.ensures) o.ensures o.auto.buf o.auto.nums b.auto.work b.auto.numbers refl (b.ensures.0 c.args.spans.now) b.ensures.1 c.end_mark.ensures
 
 pub write_mark-write_slot-body-requires : goal.write_mark-write_slot-body-requires
 write_mark-write_slot-body-requires t c =
     let o = c.put_sign_in-start in
-    let f = slot-falls c.args.w c.requires c.kind_at-kind.ensures c.delimiter_of-d.ensures o.ensures o.auto.buf o.auto.nums c.bit_of.ensures in
-    (omega arith, slot-asked c.args.w c.requires c.kind_at-kind.ensures c.delimiter_of-d.ensures o.ensures o.auto.buf o.auto.nums c.bit_of.ensures)
+    let f = slot-falls c.args.w c.requires refl (c.delimiter-d.ensures ∙ ap delimiter c.kind_at-kind.ensures) o.ensures o.auto.buf o.auto.nums (c.bit.ensures ∙ bit-numbered _ _ c.kind_at-kind.ensures) in
+    (omega arith, slot-asked c.args.w c.requires refl (c.delimiter-d.ensures ∙ ap delimiter c.kind_at-kind.ensures) o.ensures o.auto.buf o.auto.nums (c.bit.ensures ∙ bit-numbered _ _ c.kind_at-kind.ensures))
 
 pub write_mark-end_mark-requires-2 : goal.write_mark-end_mark-requires-2
 write_mark-end_mark-requires-2 t c =
     let o = c.put_sign_in-start in
     let b = c.write_slot-body in
-    body-asked c.args.w c.requires c.kind_at-kind.ensures c.delimiter_of-d.ensures o.ensures o.auto.buf o.auto.nums b.auto.work b.auto.numbers b.auto.spans b.ensures.0 b.ensures.1
+    body-asked c.args.w c.requires refl (c.delimiter-d.ensures ∙ ap delimiter c.kind_at-kind.ensures) o.ensures o.auto.buf o.auto.nums b.auto.work b.auto.numbers b.auto.spans b.ensures.0 b.ensures.1
 
 pub write_mark-returns : goal.write_mark-returns
 write_mark-returns t c =
     let o = c.put_sign_in-start in
     let b = c.write_slot-body in
-    mark-done c.args.w c.requires c.kind_at-kind.ensures c.delimiter_of-d.ensures o.ensures o.auto.buf o.auto.nums b.auto.work b.auto.numbers b.auto.spans b.ensures.0 b.ensures.1 c.end_mark-2.ensures
+    mark-done c.args.w c.requires refl (c.delimiter-d.ensures ∙ ap delimiter c.kind_at-kind.ensures) o.ensures o.auto.buf o.auto.nums b.auto.work b.auto.numbers b.auto.spans b.ensures.0 b.ensures.1 c.end_mark-2.ensures
 
 pub write_slot-overflow_sub-depth : goal.write_slot-overflow_sub-depth
 write_slot-overflow_sub-depth t c = ones-few c.args.mask c.requires.0.small
