@@ -10,8 +10,7 @@ use lib.Seq.{slice-cons}
 use Rattle.text.specs.Ascii.{is_empty}
 use Rattle.text.specs.Cells.{Cell, cells, part, feed}
 use Rattle.text.specs.Lines.{trim_start, trim_onto, trim_end, trim, lines, followed, joined}
-use Rattle.text.specs.Writes.{Appends}
-use Rattle.text.proofs.Writing.{appends-none, appends-then, part_none, part-cons}
+use Rattle.text.proofs.Writing.{part_end, part-cons}
 use Rattle.list_blocks.specs.Blocks.{space, trim_item, later_line, indented, marked, item_text, item_texts, lead_onto, block, trimmed, between, head_or, parts_in, Rises, held_back}
 use Rattle.list_blocks.proofs.ItemLaws as I
 use Rattle.list_blocks.proofs.ItemLaws.{Solid, Good, Ended, nothing, something, ended, solid-some, solid-append, good, lines-item, trim_item-lines, solid-joined}
@@ -101,34 +100,21 @@ pub trim-part : (w : List Cell) (a e i j : ℕ) → part i e w ≡ trim_start (p
 unfolding trim
 trim-part w a e i j p q = q ∙ ap trim_end p
 
--- an item's text t before others, over lists of cells: what is certain of it has been appended, and held' line feeds are held back in place of held
-pub record BlockedCells (v : List Cell) (at : ℕ) (v' : List Cell) (at' : ℕ) (t : List Cell) (held held' : ℕ) : Type 0 where
-  pub past : List Cell
-  pub wrote : Appends v at v' at' past
-  pub rest : (texts : List (List Cell)) → held_back held (t ∷ texts) ≡ past ++ held_back held' texts
-  pub few : held' ≤ held + 1
-
-pub blocked-empty : {v : List Cell} {at : ℕ} (mark x : List Cell) (held i j : ℕ) (w : List Cell) → part i j w ≡ trim x → i ≡ j
-    → BlockedCells v at v at (item_text mark x) held (held + 1)
+-- an item's text before others
+pub blocked-empty : (mark x : List Cell) (held i j : ℕ) (w : List Cell) → part i j w ≡ trim x → j ≤ i → (ts : List (List Cell)) → held_back held (item_text mark x ∷ ts) ≡ held_back (held + 1) ts
 unfolding item_text trimmed lines
-blocked-empty {v} {at} mark x held i j w q e =
-    let n : trim x ≡ [] = sym q ∙ rw e (part_none j w) in
+blocked-empty mark x held i j w q e ts =
+    let n : trim x ≡ [] = sym q ∙ part_end i j w e in
     let t : marked mark (lines (trim_item x)) ≡ [] = rw (lines-item x, n) in
-    record { past = []; wrote = appends-none v at; rest = λ ts. rw t (held-empty held ts); few = omega arith }
+    rw t (held-empty held ts)
 
-pub blocked-item : {v v₁ v₂ : List Cell} {at to r : ℕ} (mark x : List Cell) (held i j : ℕ) (bs ns : List ℕ) → part i j (cells bs ns) ≡ trim x
-    → i < j → j ≤ length bs → j ≤ length ns → Appends v at v₁ to (replicate held feed) → Appends v₁ to v₂ r (marked mark (trimmed (part i j (cells bs ns))))
-    → BlockedCells v at v₂ r (item_text mark x) held 1
+pub blocked-item : (mark x : List Cell) (held i j : ℕ) (bs ns : List ℕ) → part i j (cells bs ns) ≡ trim x → i < j → j ≤ length bs → j ≤ length ns
+    → (ts : List (List Cell)) → held_back held (item_text mark x ∷ ts) ≡ (replicate held feed ++ marked mark (trimmed (part i j (cells bs ns)))) ++ held_back 1 ts
 unfolding item_text
-blocked-item mark x held i j bs ns q lt hb hn p s =
+blocked-item mark x held i j bs ns q lt hb hn ts =
     let some : is_empty (trim x) ≡ false = rw (← q, part-cons bs ns i j lt hb hn) in
-    let t : marked mark (trimmed (part i j (cells bs ns))) ≡ marked mark (lines (trim_item x)) = rw (lines-item x, q) in
-    record {
-      past = replicate held feed ++ marked mark (lines (trim_item x));
-      wrote = rw (← t) (appends-then p s);
-      rest = λ ts. held-item held (marked mark (lines (trim_item x))) ts (rw (lines-item x) (marked-solid mark (trimmed (trim x)) (good (trim-solid x some))));
-      few = omega arith;
-    }
+    let t : marked mark (lines (trim_item x)) ≡ marked mark (trimmed (part i j (cells bs ns))) = rw (lines-item x, q) in
+    rw (← t) (held-item held (marked mark (lines (trim_item x))) ts (rw (lines-item x) (marked-solid mark (trimmed (trim x)) (good (trim-solid x some)))))
 
 -- ---- the parts of a table
 
@@ -202,27 +188,24 @@ module _ (o s : Bool) (k last e a j x y : ℕ) (bs ns : List ℕ) (lt : k < last
   unfolding block texts
   block-is = rw (parts-cons k last e ns (cells bs ns) lt h, ← qa, ← qj)
 
-  pub block-items : {v v' : List Cell} {at r : ℕ} → x ≡ y → Appends v at v' r (to_write o s 0 1 (k + 1) last e ns (cells bs ns))
-      → Appends v at v' r (block o s (parts_in (cells bs ns) (between k last ns) e))
+  pub block-items : y ≤ x → to_write o s 0 1 (k + 1) last e ns (cells bs ns) ≡ block o s (parts_in (cells bs ns) (between k last ns) e)
   unfolding held_back texts trimmed lines joined
-  block-items z p =
-      let n : trim (part a j (cells bs ns)) ≡ [] = sym q ∙ rw z (part_none y (cells bs ns)) in
+  block-items z =
+      let n : trim (part a j (cells bs ns)) ≡ [] = sym q ∙ part_end x y (cells bs ns) z in
       let t : trim_item (part a j (cells bs ns)) ≡ [] = trim_item-lines (part a j (cells bs ns)) ∙ rw n in
-      rw (block-is, t) p
+      rw (block-is, t)
 
   lead-onto : (l items : List Cell) → Solid l → trim_end (lead_onto l items) ≡ l ++ trim_end (feed ∷ items)
   lead-onto [] items s = absurd (true≢false (solid-some s))
   lead-onto (c ∷ l) items s = solid-end s (feed ∷ items)
 
-  pub block-lead : {v v₁ v₂ : List Cell} {at to r : ℕ} → x < y → y ≤ length bs → y ≤ length ns
-      → Appends v at v₁ to (joined (indented 0 (trimmed (part x y (cells bs ns)))))
-      → Appends v₁ to v₂ r (to_write o s 1 1 (k + 1) last e ns (cells bs ns))
-      → Appends v at v₂ r (block o s (parts_in (cells bs ns) (between k last ns) e))
+  pub block-lead : x < y → y ≤ length bs → y ≤ length ns
+      → joined (indented 0 (trimmed (part x y (cells bs ns)))) ++ to_write o s 1 1 (k + 1) last e ns (cells bs ns) ≡ block o s (parts_in (cells bs ns) (between k last ns) e)
   unfolding held_back texts
-  block-lead lt' hb hn p w =
+  block-lead lt' hb hn =
       let some : is_empty (trim (part a j (cells bs ns))) ≡ false = rw (← q, part-cons bs ns x y lt' hb hn) in
       let t : joined (indented 0 (trimmed (part x y (cells bs ns)))) ≡ trim_item (part a j (cells bs ns)) =
       ap joined (indented-none (trimmed (part x y (cells bs ns)))) ∙ rw (q, trim_item-lines (part a j (cells bs ns))) in
       let sol : Solid (trim_item (part a j (cells bs ns))) =
       rw (trim_item-lines (part a j (cells bs ns))) (solid-joined (trimmed (trim (part a j (cells bs ns)))) (good (trim-solid (part a j (cells bs ns)) some))) in
-      rw (block-is, lead-onto (trim_item (part a j (cells bs ns))) (joined texts) sol, ← t) (appends-then p w)
+      rw (block-is, lead-onto (trim_item (part a j (cells bs ns))) (joined texts) sol, ← t)

@@ -7,8 +7,7 @@ use lib.ListN.{length, get_or, replicate}
 use Rattle.text.specs.Ascii.{is_empty}
 use Rattle.text.specs.Cells.{Cell, cell, cells, part, feed}
 use Rattle.text.specs.Lines.{trim_end, line_onto, lines, is_feed, followed, joined}
-use Rattle.text.specs.Writes.{Appends}
-use Rattle.text.proofs.Writing.{appends-then, part_none, part-cons}
+use Rattle.text.proofs.Writing.{part_end, part-cons}
 use Rattle.list_blocks.specs.Blocks.{space, later_line, indented, marked, trimmed}
 
 -- ---- a line after the first
@@ -17,17 +16,14 @@ later-some : (width : ℕ) (t : List Cell) → is_empty t ≡ false → later_li
 later-some width [] e = absurd (true≢false e)
 later-some width (c ∷ t) e = refl
 
-pub later-empty : {v v' : List Cell} {at to : ℕ} (width a r : ℕ) (w z : List Cell) → part a r w ≡ trim_end z → a ≡ r → Appends v at v' to (feed ∷ [])
-    → Appends v at v' to (feed ∷ later_line width (trim_end z))
-later-empty width a r w z e q p = rw (← e, q, part_none r w) p
+pub later-empty : (width a r : ℕ) (w : List Cell) → r ≤ a → feed ∷ [] ≡ feed ∷ later_line width (part a r w)
+later-empty width a r w q = rw (part_end a r w q)
 
-pub later-line : {v v₁ v₂ v₃ : List Cell} {at to₁ to₂ to₃ : ℕ} (width a r : ℕ) (bs ns : List ℕ) (z : List Cell) → part a r (cells bs ns) ≡ trim_end z
-    → a < r → r ≤ length bs → r ≤ length ns
-    → Appends v at v₁ to₁ (feed ∷ []) → Appends v₁ to₁ v₂ to₂ (replicate width space) → Appends v₂ to₂ v₃ to₃ (part a r (cells bs ns))
-    → Appends v at v₃ to₃ (feed ∷ later_line width (trim_end z))
-later-line width a r bs ns z e lt hb hn p q s =
+pub later-line : (width a r : ℕ) (bs ns : List ℕ) → a < r → r ≤ length bs → r ≤ length ns
+    → feed ∷ replicate width space ++ part a r (cells bs ns) ≡ feed ∷ later_line width (part a r (cells bs ns))
+later-line width a r bs ns lt hb hn =
     let n : is_empty (part a r (cells bs ns)) ≡ false = rw (part-cons bs ns a r lt hb hn) in
-    rw (← e, later-some width (part a r (cells bs ns)) n) (appends-then p (appends-then q s))
+    rw (later-some width (part a r (cells bs ns)) n)
 
 -- ---- lines
 
@@ -40,11 +36,10 @@ trimmed-next w a r e q = rw q
 abbrev pub later_from : (width i e : ℕ) → List Cell → List Cell
 later_from width i e w = followed (map (later_line width) (trimmed (part i e w)))
 
-pub lines-first : {v v₁ v₂ : List Cell} {at to r : ℕ} (width a j e y : ℕ) (w : List Cell) → lines (part a e w) ≡ part a j w ∷ lines (part (j + 1) e w)
-    → part a y w ≡ trim_end (part a j w) → Appends v at v₁ to (part a y w) → Appends v₁ to v₂ r (later_from width (j + 1) e w)
-    → Appends v at v₂ r (joined (indented width (trimmed (part a e w))))
+pub lines-first : (width a j e y : ℕ) (w : List Cell) → lines (part a e w) ≡ part a j w ∷ lines (part (j + 1) e w) → part a y w ≡ trim_end (part a j w)
+    → part a y w ++ later_from width (j + 1) e w ≡ joined (indented width (trimmed (part a e w)))
 unfolding joined
-lines-first width a j e y w q t p s = rw (trimmed-next w a j e q, ← t) (appends-then p s)
+lines-first width a j e y w q t = rw (trimmed-next w a j e q, ← t)
 
 -- ---- an item
 
@@ -68,8 +63,6 @@ pub marked-some : (mark : List Cell) (ls : List (List Cell)) → is_empty ls ≡
 marked-some mark [] e = absurd (true≢false e)
 marked-some mark (l ∷ ls) e = refl
 
-pub item_by : {v v₁ v₂ : List Cell} {at to r : ℕ} (mark : List Cell) (width a e : ℕ) (bs ns : List ℕ) → width ≡ length mark
-    → a < e → e ≤ length bs → e ≤ length ns → Appends v at v₁ to mark → Appends v₁ to v₂ r (joined (indented width (trimmed (part a e (cells bs ns)))))
-    → Appends v at v₂ r (marked mark (trimmed (part a e (cells bs ns))))
-item_by mark width a e bs ns q lt hb hn p s =
-    rw (marked-some mark (trimmed (part a e (cells bs ns))) (trimmed-some bs ns a e lt hb hn), ← q) (appends-then p s)
+pub item_by : (mark : List Cell) (width a e : ℕ) (bs ns : List ℕ) → width ≡ length mark → a < e → e ≤ length bs → e ≤ length ns
+    → mark ++ joined (indented width (trimmed (part a e (cells bs ns)))) ≡ marked mark (trimmed (part a e (cells bs ns)))
+item_by mark width a e bs ns q lt hb hn = rw (marked-some mark (trimmed (part a e (cells bs ns))) (trimmed-some bs ns a e lt hb hn), ← q)

@@ -8,8 +8,9 @@ use native.Mathlib.Omega.{arith}
 use lib.ListN.{length, replicate, length-map, length-append}
 use Rattle.text.specs.Cells.{Cell, sign}
 use Rattle.text.specs.Decimal.{decimal}
-use Rattle.text.specs.Writes.{Appends}
-use Rattle.text.proofs.Writing.{appends-then}
+use Rattle.text.specs.Writers.{Wrote}
+use Rattle.text.specs.declared.writer.Writer.{Writer}
+use Rattle.text.proofs.Writers.{wrote-then}
 use Rattle.text.proofs.Decimals.{decimal-one, decimal-more}
 use Rattle.list_blocks.specs.Blocks.{space, marker}
 
@@ -19,9 +20,8 @@ snoc : (n : ℕ) (c : Cell) → replicate (suc n) c ≡ replicate n c ++ c ∷ [
 snoc zero c = refl
 snoc (suc n) c = ap (λ (l : List Cell). c ∷ l) (snoc n c)
 
-pub again-turn : {v v₁ v₂ : List Cell} {at to r : ℕ} (n : ℕ) (c : Cell) → Appends v at v₁ to (replicate n c) → Appends v₁ to v₂ r (c ∷ [])
-    → Appends v at v₂ r (replicate (n + 1) c)
-again-turn n c p q = rw (add-one n, snoc n c) (appends-then p q)
+pub wrote-again : {w w₁ w₂ : Writer} (n : ℕ) (c : Cell) → Wrote w w₁ (replicate n c) → Wrote w₁ w₂ (c ∷ []) → Wrote w w₂ (replicate (n + 1) c)
+wrote-again n c p q = rw (add-one n, snoc n c) (wrote-then p q)
 
 -- ---- digits
 
@@ -46,12 +46,10 @@ pub width-ordered : (o s : Bool) (n r : ℕ) → o ≡ true → r ≡ length (de
 unfolding marker
 width-ordered o s n r e q = rw e (simp length-append (let a = length-map (decimal n) sign in omega arith))
 
-pub marker-plain : {v v₁ v₂ : List Cell} {at to r x : ℕ} (o s : Bool) (n : ℕ) → o ≡ false → x ≡ cond s 42 45
-    → Appends v at v₁ to (sign x ∷ []) → Appends v₁ to v₂ r (space ∷ []) → Appends v at v₂ r (marker o s n)
+pub marker-plain : (o s : Bool) (n x : ℕ) → o ≡ false → x ≡ cond s 42 45 → sign x ∷ space ∷ [] ≡ marker o s n
 unfolding marker
-marker-plain o s n e q a b = rw (e, ← q) (appends-then a b)
+marker-plain o s n x e q = rw (e, ← q)
 
-pub marker-ordered : {v v₁ v₂ v₃ : List Cell} {at to₁ to₂ r x : ℕ} (o s : Bool) (n : ℕ) → o ≡ true → x ≡ cond s 41 46
-    → Appends v at v₁ to₁ (map sign (decimal n)) → Appends v₁ to₁ v₂ to₂ (sign x ∷ []) → Appends v₂ to₂ v₃ r (space ∷ []) → Appends v at v₃ r (marker o s n)
+pub marker-ordered : (o s : Bool) (n x : ℕ) → o ≡ true → x ≡ cond s 41 46 → map sign (decimal n) ++ sign x ∷ space ∷ [] ≡ marker o s n
 unfolding marker
-marker-ordered o s n e q a b c = rw (e, ← q) (appends-then a (appends-then b c))
+marker-ordered o s n x e q = rw (e, ← q)

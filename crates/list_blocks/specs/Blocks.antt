@@ -6,6 +6,8 @@
 --   trimmed x          the lines of x, each end trimmed
 --   parts_in w ss e     the parts of w that begin at the places ss, up to place e
 --   Rises ss e         each of these places is at most the next, and e
+--   kind_of o s        a list's kind as a number
+--   TrimmedAt .., LineAt ..   where a text ends when it is trimmed, and where its first line ends
 --   Blocked ..         an item has been appended, or held back
 --   Tabled ..          a table of parts stands where a block can be written by it
 -- Assumes nothing.
@@ -14,7 +16,9 @@ use Prim.Native.Char.{code}
 use Rattle.text.specs.Cells.{Cell, cells, feed, sign, part}
 use Rattle.text.specs.Lines.{trim, trim_end, lines, joined}
 use Rattle.text.specs.Decimal.{decimal}
-use Rattle.text.specs.Writes.{AppendsIn, Apart}
+use Rattle.text.specs.Writes.{Apart}
+use Rattle.text.specs.Writers.{Wrote}
+use Rattle.text.specs.declared.writer.Writer.{Writer}
 
 -- the space that a rule writes
 abbrev pub space : Cell
@@ -62,6 +66,9 @@ block ordered second (lead ∷ items) = trim_end (lead_onto (trim_item lead) (jo
 
 -- ---- in code
 
+unfoldable pub kind_of : (ordered second : Bool) → ℕ
+kind_of ordered second = cond ordered 2 0 + cond second 1 0
+
 unfoldable pub trimmed : List Cell → List (List Cell)
 trimmed x = map trim_end (lines x)
 
@@ -81,32 +88,40 @@ unfoldable pub Rises : (ss : List ℕ) → (e : ℕ) → Type 0
 Rises [] e = Unit
 Rises (a ∷ ss) e = (a ≤ head_or e ss) × Rises ss e
 
+-- in a writer's slices: the cells from a up to e are trimmed from x up to y
+pub record TrimmedAt (w : Writer) (a e x y : ℕ) : Type 0 where
+  pub order : (a ≤ x) × ((x ≤ y) × (y ≤ e))
+  pub text : part x y (cells w.bytes.now w.numbers.now) ≡ trim (part a e (cells w.bytes.now w.numbers.now))
+
+-- the first line of the cells from a up to e ends at place j, and at y when its end is trimmed
+pub record LineAt (w : Writer) (a e j y : ℕ) : Type 0 where
+  pub order : (a ≤ y) × ((y ≤ j) × (j ≤ e))
+  pub line : lines (part a e (cells w.bytes.now w.numbers.now)) ≡ part a j (cells w.bytes.now w.numbers.now) ∷ lines (part (j + 1) e (cells w.bytes.now w.numbers.now))
+  pub text : part a y (cells w.bytes.now w.numbers.now) ≡ trim_end (part a j (cells w.bytes.now w.numbers.now))
+
 -- line feeds and the items behind them, the end trimmed: what a block still has to write
 unfoldable pub held_back : (held : ℕ) → List (List Cell) → List Cell
 held_back held texts = trim_end (replicate held feed ++ joined texts)
 
--- an item's text t before others: in the area before `end` of a pair of slices, from `at` to `at'`, what is certain of it has been appended,
--- and held' line feeds are held back in place of held
-pub record Blocked (bs ns : List ℕ) (end at : ℕ) (bs' ns' : List ℕ) (at' : ℕ) (t : List Cell) (held held' : ℕ) : Type 0 where
+-- an item's text t before others: what is certain of it has been appended, and held' line feeds are held back in place of held
+pub record Blocked (w w' : Writer) (t : List Cell) (held held' : ℕ) : Type 0 where
   pub past : List Cell
-  pub wrote : AppendsIn bs ns end at bs' ns' at' past
+  pub wrote : Wrote w w' past
   pub rest : (texts : List (List Cell)) → held_back held (t ∷ texts) ≡ past ++ held_back held' texts
   pub few : held' ≤ held + 1
 
--- the table of parts from place k up to place last, which end by e, before the place `at` of an area that ends before `end`; the table
--- stands outside of the area
-pub record Tabled (bs ns : List ℕ) (k last e end at : ℕ) : Type 0 where
-  pub table : (last ≤ length ns) × Apart k last at end
-  pub rises : Rises (between k last ns) e
-  pub parts : (e ≤ at) × (e ≤ end)
-  pub fits : (end ≤ length bs) × (end ≤ length ns)
+-- the table of parts from place k up to place last, which end by e, before a writer's area; the table stands outside of the area
+pub record Tabled (w : Writer) (k last e : ℕ) : Type 0 where
+  pub table : (last ≤ length w.numbers.now) × Apart k last w.at.0 w.end
+  pub rises : Rises (between k last w.numbers.now) e
+  pub parts : (e ≤ w.at.0) × (e ≤ w.end)
 
 -- of the parts by the table: the items behind line feeds held back, and the block
-abbrev pub items_at : (bs ns : List ℕ) (k last e : ℕ) (ordered second : Bool) (held : ℕ) → List Cell
-items_at bs ns k last e ordered second held = held_back held (item_texts ordered second 1 (parts_in (cells bs ns) (between k last ns) e))
+abbrev pub items_at : (w : Writer) (k last e : ℕ) (ordered second : Bool) (held : ℕ) → List Cell
+items_at w k last e ordered second held = held_back held (item_texts ordered second 1 (parts_in (cells w.bytes.now w.numbers.now) (between k last w.numbers.now) e))
 
-abbrev pub block_at : (bs ns : List ℕ) (k last e : ℕ) (ordered second : Bool) → List Cell
-block_at bs ns k last e ordered second = block ordered second (parts_in (cells bs ns) (between k last ns) e)
+abbrev pub block_at : (w : Writer) (k last e : ℕ) (ordered second : Bool) → List Cell
+block_at w k last e ordered second = block ordered second (parts_in (cells w.bytes.now w.numbers.now) (between k last w.numbers.now) e)
 
 -- all of this module, for `unfolding` where a closed text is to be computed
 unfoldable pub computes : Unit {0}

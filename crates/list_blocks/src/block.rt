@@ -3,117 +3,75 @@
 ghost use Rattle.std.specs.Prelude.{◌≡◌, ◌+◌, ◌≤◌, ◌<◌, length};
 ghost use Rattle.text.specs.Bounds.{number_most};
 ghost use Rattle.text.specs.Cells.{cells, part};
-ghost use Rattle.text.specs.Writes.{AppendsIn};
-ghost use Rattle.list_blocks.specs.Blocks.{marker, item_text, between, head_or, Tabled, Blocked, items_at, block_at};
+ghost use Rattle.text.specs.Writers.{Wrote};
+ghost use Rattle.list_blocks.specs.Blocks.{marker, item_text, between, head_or, TrimmedAt, Tabled, Blocked, items_at, block_at};
 
-use crate::item::{Kind, put_feeds, put_item, put_lines};
+use crate::item::{Kind, put_blanks, put_item, put_lines};
 use text::WorkAt;
-use text::trim::{trim_end, trim_start};
+use text::writer::Writer;
 
-// Where the text stands, and how many line feeds are held back.
-#[derive(Clone, Copy)]
-struct Next {
-    at: WorkAt,
-    held: usize,
+// The cells from a up to e, trimmed.
+fn trim(w: &Writer, a: WorkAt, e: WorkAt) -> (WorkAt, WorkAt)
+    requires { (a.0 ≤ e.0) × (e.0 ≤ w.now.end) }
+    ensures { TrimmedAt w.now a.0 e.0 result.0.0 result.1.0 }
+{
+    let start = w.trim_start(a, e);
+    (start, w.trim_end(start, e))
 }
 
-// Appends an item behind the line feeds held back; an empty one is held back too.
-fn put_next(
-    work: &mut [u8],
-    numbers: &mut [u32],
-    a: WorkAt,
-    e: WorkAt,
-    kind: Kind,
-    index: u32,
-    held: usize,
-    end: usize,
-    at: WorkAt,
-) -> Next
-    requires { (((a.0 ≤ e.0) × (e.0 ≤ at.0)) × (held ≤ number_most + 1)) × ((e.0 ≤ end) × ((end ≤ length work.old) × (end ≤ length numbers.old))) }
-    ensures { Blocked work.old numbers.old end at.0 work.new numbers.new result.at.0 (item_text (marker kind.ordered kind.second index) (part a.0 e.0 (cells work.old numbers.old))) held result.held }
+// Appends an item behind the line feeds held back; an empty one is held back too. How many are held back then.
+fn put_next(w: &mut Writer, a: WorkAt, e: WorkAt, kind: Kind, index: u32, held: usize) -> usize
+    requires { ((a.0 ≤ e.0) × ((e.0 ≤ w.old.at.0) × (e.0 ≤ w.old.end))) × (held ≤ number_most + 1) }
+    ensures { Blocked w.old w.new (item_text (marker kind.ordered kind.second index) (part a.0 e.0 (cells w.old.bytes.now w.old.numbers.now))) held result }
 {
-    let x = trim_start(&work[..], &numbers[..], a, e);
-    let y = trim_end(&work[..], &numbers[..], x, e);
-    let i = x.0;
-    let j = y.0;
-    if i == j {
-        return Next { at, held: held + 1 };
+    let (x, y) = trim(w, a, e);
+    if x.0 == y.0 {
+        return held + 1;
     }
-    let z = put_feeds(held, work, numbers, end, at);
-    let to = put_item(work, numbers, x, y, kind, index, end, z);
-    Next { at: to, held: 1 }
+    put_blanks(w, b'\n', held);
+    put_item(w, x, y, kind, index);
+    1
 }
 
 // The place at index k of the table that ends before index last, or the end of the last part.
-fn place_of(numbers: &[u32], k: WorkAt, last: WorkAt, e: WorkAt) -> WorkAt
-    requires { last.0 ≤ length numbers.now }
-    ensures { result.0 ≡ head_or e.0 (between k.0 last.0 numbers.now) }
+fn place_of(w: &Writer, k: WorkAt, last: WorkAt, e: WorkAt) -> WorkAt
+    requires { last.0 ≤ length w.now.numbers.now }
+    ensures { result.0 ≡ head_or e.0 (between k.0 last.0 w.now.numbers.now) }
 {
-    let i = k.0;
-    let stop = last.0;
-    if i < stop {
-        return WorkAt(numbers[i] as usize);
+    if k.0 < last.0 {
+        WorkAt(w.numbers[k.0] as usize)
+    } else {
+        e
     }
-    e
 }
 
 // Appends the items that begin at the places from index k up to index last of the table, behind line feeds held back.
-fn put_items(
-    work: &mut [u8],
-    numbers: &mut [u32],
-    k: WorkAt,
-    last: WorkAt,
-    e: WorkAt,
-    kind: Kind,
-    held: usize,
-    end: usize,
-    at: WorkAt,
-) -> WorkAt
-    requires { ((last.0 < k.0 + number_most) × (held ≤ 1)) × Tabled work.old numbers.old k.0 last.0 e.0 end at.0 }
-    ensures { AppendsIn work.old numbers.old end at.0 work.new numbers.new result.0 (items_at work.old numbers.old k.0 last.0 e.0 kind.ordered kind.second held) }
+fn put_items(w: &mut Writer, k: WorkAt, last: WorkAt, e: WorkAt, kind: Kind, held: usize)
+    requires { ((last.0 < k.0 + number_most) × (held ≤ 1)) × Tabled w.old k.0 last.0 e.0 }
+    ensures { Wrote w.old w.new (items_at w.old k.0 last.0 e.0 kind.ordered kind.second held) }
 {
-    let stop = last.0;
-    let mut i = k.0;
-    let mut index: u32 = 1;
-    let mut back = held;
-    let mut to = at;
-    while i < stop {
-        let a = numbers[i] as usize;
-        let j = place_of(&numbers[..], WorkAt(i + 1), last, e);
-        let next = put_next(work, numbers, WorkAt(a), j, kind, index, back, end, to);
-        to = next.at;
-        back = next.held;
-        index += 1;
-        i += 1;
+    let mut held = held;
+    for i in k.0..last.0 {
+        let a = WorkAt(w.numbers[i] as usize);
+        let b = place_of(w, WorkAt(i + 1), last, e);
+        held = put_next(w, a, b, kind, (i - k.0) as u32 + 1, held);
     }
-    to
 }
 
 // Appends the block of a list whose parts begin at the places from index k up to index last of the table.
-pub fn put_block(
-    work: &mut [u8],
-    numbers: &mut [u32],
-    k: WorkAt,
-    last: WorkAt,
-    e: WorkAt,
-    kind: Kind,
-    end: usize,
-    at: WorkAt,
-) -> WorkAt
-    requires { ((k.0 < last.0) × (last.0 ≤ k.0 + number_most)) × Tabled work.old numbers.old k.0 last.0 e.0 end at.0 }
-    ensures { AppendsIn work.old numbers.old end at.0 work.new numbers.new result.0 (block_at work.old numbers.old k.0 last.0 e.0 kind.ordered kind.second) }
+pub fn put_block(w: &mut Writer, k: WorkAt, last: WorkAt, e: WorkAt, kind: Kind)
+    requires { ((k.0 < last.0) × (last.0 ≤ k.0 + number_most)) × Tabled w.old k.0 last.0 e.0 }
+    ensures { Wrote w.old w.new (block_at w.old k.0 last.0 e.0 kind.ordered kind.second) }
 {
-    let lead = k.0;
-    let items = WorkAt(lead + 1);
-    let a = numbers[lead] as usize;
-    let b = place_of(&numbers[..], items, last, e);
-    let x = trim_start(&work[..], &numbers[..], WorkAt(a), b);
-    let y = trim_end(&work[..], &numbers[..], x, b);
-    let i = x.0;
-    let j = y.0;
-    if i == j {
-        return put_items(work, numbers, items, last, e, kind, 0, end, at);
-    }
-    let z = put_lines(work, numbers, x, y, 0, end, at);
-    put_items(work, numbers, items, last, e, kind, 1, end, z)
+    let items = WorkAt(k.0 + 1);
+    let a = WorkAt(w.numbers[k.0] as usize);
+    let b = place_of(w, items, last, e);
+    let (x, y) = trim(w, a, b);
+    let held = if x.0 < y.0 {
+        put_lines(w, x, y, 0);
+        1
+    } else {
+        0
+    };
+    put_items(w, items, last, e, kind, held);
 }

@@ -1,199 +1,139 @@
-// The writers of an item: into an area of the slices that it stands in, behind it.
-ghost use Rattle.std.specs.Prelude.{◌≡◌, cond, ◌∷◌, map, ◌+◌, ◌≤◌, ◌<◌, length, replicate};
-ghost use Rattle.text.specs.Cells.{cells, part, feed, sign};
-ghost use Rattle.text.specs.Lines.{trim_end, followed, joined};
+// The writers of an item. What is appended stands in the writer's pair of slices, before its area.
+ghost use Rattle.std.specs.Prelude.{◌≡◌, cond, ◌∷◌, map, ◌+◌, ◌≤◌, ◌<◌, ◌%◌, length, replicate, eqb, leb};
+ghost use Rattle.text.specs.Cells.{cell, cells, part, feed};
+ghost use Rattle.text.specs.Lines.{followed, joined};
 ghost use Rattle.text.specs.Decimal.{decimal};
-ghost use Rattle.text.specs.Writes.{AppendsIn};
-ghost use Rattle.list_blocks.specs.Blocks.{space, marker, later_line, indented, marked, trimmed};
+ghost use Rattle.text.specs.Writers.{Wrote};
+ghost use Rattle.list_blocks.specs.Blocks.{marker, kind_of, later_line, indented, marked, trimmed, LineAt};
 
 use text::WorkAt;
-use text::area::{copy_within, put_feed_in, put_in, put_sign_in};
 use text::cell::RULE_BLANK;
-use text::trim::{line_end, trim_end};
+use text::writer::Writer;
 
 // A list's kind: whether it is ordered, and whether it has the second marker of the two.
-#[derive(Clone, Copy)]
+#[derive(Clone, Copy, Debug, PartialEq, Eq)]
 pub struct Kind {
     pub ordered: bool,
     pub second: bool,
+}
+
+// Its number in the table of open lists.
+impl From<Kind> for u32 {
+    ghost from_gives = { λ kind code. code ≡ kind_of kind.ordered kind.second };
+
+    fn from(kind: Kind) -> u32 {
+        2 * u32::from(kind.ordered) + u32::from(kind.second)
+    }
+}
+
+impl From<u32> for Kind {
+    ghost from_gives = { λ code kind. (kind.ordered ≡ leb 2 code) × (kind.second ≡ eqb (code % 2) 1) };
+
+    fn from(code: u32) -> Kind {
+        Kind {
+            ordered: 2 <= code,
+            second: code % 2 == 1,
+        }
+    }
+}
+
+impl Kind {
+    // The sign at a marker's end, before the space.
+    fn sign(self) -> u8
+        ensures { result ≡ cond self.ordered (cond self.second 41 46) (cond self.second 42 45) }
+    {
+        match (self.ordered, self.second) {
+            (false, false) => b'-',
+            (false, true) => b'*',
+            (true, false) => b'.',
+            (true, true) => b')',
+        }
+    }
+
+    // How wide the marker of an item is.
+    fn marker_width(self, index: u32) -> usize
+        ensures { result ≡ length (marker self.ordered self.second index) }
+    {
+        if self.ordered { digits(index) + 2 } else { 2 }
+    }
 }
 
 // How many digits a number has.
 fn digits(n: u32) -> usize
     ensures { (result ≡ length (decimal n)) × (result ≤ n + 1) }
 {
-    if n < 10 {
-        return 1;
-    }
-    digits(n / 10) + 1
+    if n < 10 { 1 } else { digits(n / 10) + 1 }
 }
 
-// How wide a marker is.
-fn marker_width(kind: Kind, index: u32) -> usize
-    ensures { result ≡ length (marker kind.ordered kind.second index) }
+// Appends a byte n times that a rule writes and that is blank.
+pub fn put_blanks(w: &mut Writer, b: u8, n: usize)
+    ensures { Wrote w.old w.new (replicate n (cell b 1)) }
+{
+    for _ in 0..n {
+        w.put(b, RULE_BLANK);
+    }
+}
+
+// Appends the marker of an item.
+fn put_marker(w: &mut Writer, kind: Kind, index: u32)
+    ensures { Wrote w.old w.new (marker kind.ordered kind.second index) }
 {
     if kind.ordered {
-        return digits(index) + 2;
+        w.put_decimal(index);
     }
-    2
+    w.put_sign(kind.sign());
+    w.put_space();
 }
 
-// The sign at a marker's end, before the space.
-fn marker_sign(second: bool, one: u8, other: u8) -> u8
-    ensures { result ≡ cond second other one }
+// Where the first line of the cells from a up to e ends, and where it ends when it is trimmed.
+fn line_at(w: &Writer, a: WorkAt, e: WorkAt) -> (WorkAt, WorkAt)
+    requires { (a.0 < e.0) × (e.0 ≤ w.now.end) }
+    ensures { LineAt w.now a.0 e.0 result.0.0 result.1.0 }
 {
-    if second {
-        return other;
-    }
-    one
+    let end = w.line_end(a, e);
+    (end, w.trim_end(a, end))
 }
 
-// Appends line feeds.
-pub fn put_feeds(n: usize, work: &mut [u8], numbers: &mut [u32], end: usize, at: WorkAt) -> WorkAt
-    requires { (end ≤ length work.old) × (end ≤ length numbers.old) }
-    ensures { AppendsIn work.old numbers.old end at.0 work.new numbers.new result.0 (replicate n feed) }
+// Appends a line feed and a line after an item's first.
+fn put_later(w: &mut Writer, a: WorkAt, e: WorkAt, width: usize)
+    requires { (a.0 ≤ e.0) × ((e.0 ≤ w.old.at.0) × (e.0 ≤ w.old.end)) }
+    ensures { Wrote w.old w.new (feed ∷ later_line width (part a.0 e.0 (cells w.old.bytes.now w.old.numbers.now))) }
 {
-    let mut k: usize = 0;
-    let mut to = at;
-    while k < n {
-        to = put_feed_in(work, numbers, end, to);
-        k += 1;
+    w.put_feed();
+    if a.0 < e.0 {
+        put_blanks(w, b' ', width);
+        w.copy_within(a, e);
     }
-    to
 }
 
-// Appends spaces that a rule writes.
-fn put_spaces(n: usize, work: &mut [u8], numbers: &mut [u32], end: usize, at: WorkAt) -> WorkAt
-    requires { (end ≤ length work.old) × (end ≤ length numbers.old) }
-    ensures { AppendsIn work.old numbers.old end at.0 work.new numbers.new result.0 (replicate n space) }
+// Appends all lines after an item's first. A while: the steps differ.
+fn put_later_lines(w: &mut Writer, a: WorkAt, e: WorkAt, width: usize)
+    requires { (e.0 ≤ w.old.at.0) × (e.0 ≤ w.old.end) }
+    ensures { Wrote w.old w.new (followed (map (later_line width) (trimmed (part a.0 e.0 (cells w.old.bytes.now w.old.numbers.now))))) }
 {
-    let mut k: usize = 0;
-    let mut to = at;
-    while k < n {
-        to = put_in(work, numbers, end, to, b' ', RULE_BLANK);
-        k += 1;
-    }
-    to
-}
-
-// Appends a number in decimal.
-fn put_decimal(n: u32, work: &mut [u8], numbers: &mut [u32], end: usize, at: WorkAt) -> WorkAt
-    requires { (end ≤ length work.old) × (end ≤ length numbers.old) }
-    ensures { AppendsIn work.old numbers.old end at.0 work.new numbers.new result.0 (map sign (decimal n)) }
-{
-    if n < 10 {
-        return put_sign_in(work, numbers, end, at, (48 + n) as u8);
-    }
-    let front = put_decimal(n / 10, work, numbers, end, at);
-    put_sign_in(work, numbers, end, front, (48 + n % 10) as u8)
-}
-
-// Appends a marker.
-fn put_marker(
-    kind: Kind,
-    index: u32,
-    work: &mut [u8],
-    numbers: &mut [u32],
-    end: usize,
-    at: WorkAt,
-) -> WorkAt
-    requires { (end ≤ length work.old) × (end ≤ length numbers.old) }
-    ensures { AppendsIn work.old numbers.old end at.0 work.new numbers.new result.0 (marker kind.ordered kind.second index) }
-{
-    if kind.ordered {
-        let x = put_decimal(index, work, numbers, end, at);
-        let y = put_sign_in(work, numbers, end, x, marker_sign(kind.second, b'.', b')'));
-        return put_in(work, numbers, end, y, b' ', RULE_BLANK);
-    }
-    let z = put_sign_in(work, numbers, end, at, marker_sign(kind.second, b'-', b'*'));
-    put_in(work, numbers, end, z, b' ', RULE_BLANK)
-}
-
-// Appends a line feed and a line after an item's first, its end trimmed.
-fn put_later(
-    work: &mut [u8],
-    numbers: &mut [u32],
-    a: WorkAt,
-    e: WorkAt,
-    width: usize,
-    end: usize,
-    at: WorkAt,
-) -> WorkAt
-    requires { ((a.0 ≤ e.0) × (e.0 ≤ at.0)) × ((e.0 ≤ end) × ((end ≤ length work.old) × (end ≤ length numbers.old))) }
-    ensures { AppendsIn work.old numbers.old end at.0 work.new numbers.new result.0 (feed ∷ later_line width (trim_end (part a.0 e.0 (cells work.old numbers.old)))) }
-{
-    let i = a.0;
-    let last = trim_end(&work[..], &numbers[..], a, e);
-    let j = last.0;
-    let x = put_feed_in(work, numbers, end, at);
-    if i == j {
-        return x;
-    }
-    let y = put_spaces(width, work, numbers, end, x);
-    copy_within(work, numbers, WorkAt(i), last, end, y)
-}
-
-// Appends all lines after an item's first.
-fn put_later_lines(
-    work: &mut [u8],
-    numbers: &mut [u32],
-    a: WorkAt,
-    e: WorkAt,
-    width: usize,
-    end: usize,
-    at: WorkAt,
-) -> WorkAt
-    requires { (e.0 ≤ at.0) × ((e.0 ≤ end) × ((end ≤ length work.old) × (end ≤ length numbers.old))) }
-    ensures { AppendsIn work.old numbers.old end at.0 work.new numbers.new result.0 (followed (map (later_line width) (trimmed (part a.0 e.0 (cells work.old numbers.old))))) }
-{
-    let last = e.0;
     let mut i = a.0;
-    let mut to = at;
-    while i < last {
-        let j = line_end(&work[..], &numbers[..], WorkAt(i), e);
-        let k = j.0;
-        to = put_later(work, numbers, WorkAt(i), j, width, end, to);
-        i = k + 1;
+    while i < e.0 {
+        let (end, trimmed) = line_at(w, WorkAt(i), e);
+        put_later(w, WorkAt(i), trimmed, width);
+        i = end.0 + 1;
     }
-    to
 }
 
 // Appends lines, each end trimmed, all after the first indented.
-pub fn put_lines(
-    work: &mut [u8],
-    numbers: &mut [u32],
-    a: WorkAt,
-    e: WorkAt,
-    width: usize,
-    end: usize,
-    at: WorkAt,
-) -> WorkAt
-    requires { ((a.0 < e.0) × (e.0 ≤ at.0)) × ((e.0 ≤ end) × ((end ≤ length work.old) × (end ≤ length numbers.old))) }
-    ensures { AppendsIn work.old numbers.old end at.0 work.new numbers.new result.0 (joined (indented width (trimmed (part a.0 e.0 (cells work.old numbers.old))))) }
+pub fn put_lines(w: &mut Writer, a: WorkAt, e: WorkAt, width: usize)
+    requires { (a.0 < e.0) × ((e.0 ≤ w.old.at.0) × (e.0 ≤ w.old.end)) }
+    ensures { Wrote w.old w.new (joined (indented width (trimmed (part a.0 e.0 (cells w.old.bytes.now w.old.numbers.now))))) }
 {
-    let i = a.0;
-    let j = line_end(&work[..], &numbers[..], a, e);
-    let k = j.0;
-    let last = trim_end(&work[..], &numbers[..], WorkAt(i), j);
-    let x = copy_within(work, numbers, WorkAt(i), last, end, at);
-    put_later_lines(work, numbers, WorkAt(k + 1), e, width, end, x)
+    let (end, trimmed) = line_at(w, a, e);
+    w.copy_within(a, trimmed);
+    put_later_lines(w, WorkAt(end.0 + 1), e, width);
 }
 
 // Appends an item that is not empty, of the cells from a up to e, behind its marker.
-pub fn put_item(
-    work: &mut [u8],
-    numbers: &mut [u32],
-    a: WorkAt,
-    e: WorkAt,
-    kind: Kind,
-    index: u32,
-    end: usize,
-    at: WorkAt,
-) -> WorkAt
-    requires { ((a.0 < e.0) × (e.0 ≤ at.0)) × ((e.0 ≤ end) × ((end ≤ length work.old) × (end ≤ length numbers.old))) }
-    ensures { AppendsIn work.old numbers.old end at.0 work.new numbers.new result.0 (marked (marker kind.ordered kind.second index) (trimmed (part a.0 e.0 (cells work.old numbers.old)))) }
+pub fn put_item(w: &mut Writer, a: WorkAt, e: WorkAt, kind: Kind, index: u32)
+    requires { (a.0 < e.0) × ((e.0 ≤ w.old.at.0) × (e.0 ≤ w.old.end)) }
+    ensures { Wrote w.old w.new (marked (marker kind.ordered kind.second index) (trimmed (part a.0 e.0 (cells w.old.bytes.now w.old.numbers.now)))) }
 {
-    let width = marker_width(kind, index);
-    let x = put_marker(kind, index, work, numbers, end, at);
-    put_lines(work, numbers, a, e, width, end, x)
+    put_marker(w, kind, index);
+    put_lines(w, a, e, kind.marker_width(index));
 }

@@ -2,7 +2,7 @@
 ghost use Rattle.std.specs.Prelude.{◌≡◌, ◌≤◌, length, drop, get_or};
 ghost use Rattle.text.specs.Ascii.{small};
 ghost use Rattle.text.specs.Cells.{cells};
-ghost use Rattle.list_blocks.specs.Tags.{Skips, valued, tag_at};
+ghost use Rattle.list_blocks.specs.Tags.{Skips, rest_of, valued, tag_at};
 
 use text::PostAt;
 use text::cell::is_blank;
@@ -15,6 +15,20 @@ pub enum Tag {
     Item,
     Closer,
     Plain,
+}
+
+impl Tag {
+    // How many of its cells stand behind its first.
+    pub fn size(self) -> usize
+        ensures { result ≡ rest_of self }
+    {
+        match self {
+            Tag::Opener(n, _) => n,
+            Tag::Item => 2,
+            Tag::Closer => 6,
+            Tag::Plain => 0,
+        }
+    }
 }
 
 // The first place from i on with a `]` or a cell that is not blank, or the end. A value ends there: no later byte is looked at.

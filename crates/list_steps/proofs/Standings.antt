@@ -13,9 +13,9 @@ use Rattle.text.specs.Bounds.{number_most}
 use Rattle.text.specs.Cells.{Cell, cells, part, feed}
 use Rattle.text.proofs.Writing.{holds_fits, cells-le}
 use Rattle.text.proofs.Areas.{area-length}
-use Rattle.list_blocks.specs.Blocks.{block, between, parts_in, Rises}
+use Rattle.list_blocks.specs.Blocks.{kind_of, block, between, parts_in, Rises}
 use Rattle.list_blocks.specs.Lists.{Open, State, ends_in_feed, feed_before, closing}
-use Rattle.list_steps.specs.Standing.{strung, outers, contents, starts_from, kind_of, Frames, frames, Stands, outer_at, feed_at, feeds_before, closing_at, Framed}
+use Rattle.list_steps.specs.Standing.{strung, outers, contents, starts_from, Frames, frames, Stands, outer_at, feed_at, feeds_before, closing_at, Framed}
 use Rattle.list_steps.proofs.Tables.{part_left, starts-length, starts-last, starts-rise, starts-parts, kind-ordered, kind-second, table-behind, table-size, table-read, table_at}
 
 -- ---- the contents

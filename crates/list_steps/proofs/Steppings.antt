@@ -13,10 +13,10 @@ use Rattle.text.specs.Writes.{AppendsIn}
 use Rattle.list_blocks.specs.declared.tag.Tag.{Tag}
 use Rattle.list_blocks.specs.declared.tag.Tag.TheVariants.{Opener, Item, Closer}
 use Rattle.list_blocks.specs.Tags.{rest_of}
-use Rattle.list_blocks.specs.Blocks.{between}
+use Rattle.list_blocks.specs.Blocks.{kind_of, between}
 use Rattle.list_blocks.specs.Lists.{Open, State, started, closed}
 use Rattle.list_blocks.proofs.Kept.{kept_table}
-use Rattle.list_steps.specs.Standing.{strung, outers, contents, starts_from, kind_of, frames, Stands, Steps, Ready, close_inner, kept, step_by, pushed}
+use Rattle.list_steps.specs.Standing.{strung, outers, contents, starts_from, frames, Stands, Steps, Ready, close_inner, kept, step_by, pushed}
 use Rattle.list_steps.proofs.ListsSplit.{strung-snoc}
 use Rattle.list_steps.proofs.Tables.{starts-snoc, table-push, table-size}
 use Rattle.list_steps.proofs.Standings.{stands-end, at-is}

@@ -9,8 +9,8 @@ use lib.ListN.{length, take, drop, get_or, set, length-append}
 use lib.Seq.{take_at, drop_at, take-add, take-take, drop-drop, drop-append-le, get_or-take, get_or-drop, length-take-le, length-slice, get_or-append-add, take-suc-set}
 use lib.Dec.{eqb, leb}
 use Rattle.text.specs.Cells.{Cell, part}
-use Rattle.list_blocks.specs.Blocks.{between, head_or, parts_in, Rises}
-use Rattle.list_steps.specs.Standing.{strung, starts_from, kind_of}
+use Rattle.list_blocks.specs.Blocks.{kind_of, between, head_or, parts_in, Rises}
+use Rattle.list_steps.specs.Standing.{strung, starts_from}
 
 -- ---- parts of a text
 

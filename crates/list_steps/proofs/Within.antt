@@ -11,6 +11,8 @@ use lib.Dec.{eqb, leb}
 use borrow.Author.Tests.{eqb-false}
 use Rattle.text.specs.Cells.{Cell, cells, part, feed}
 use Rattle.text.specs.Writes.{Holds, Appends, AppendsIn}
+use Rattle.text.specs.Writers.{Wrote}
+use Rattle.text.specs.declared.writer.Writer.{Writer}
 use Rattle.text.proofs.Areas.{appends_in-then, appends_in-as, apart-number, area-length, drop-take}
 use Rattle.list_blocks.specs.Blocks.{block, between, parts_in}
 use Rattle.list_blocks.specs.Lists.{State}
@@ -21,6 +23,10 @@ use Rattle.list_steps.proofs.Closes.{ready-framed, ready-start, closes-done, clo
 -- the frames stand behind the area
 behind-table : {bs ns : List ℕ} {limit table at top first : ℕ} → Framed bs ns table at top first → limit ≤ table → limit ≤ first + 2
 behind-table fr h = let i = fr.inner.0 in omega arith
+
+-- what a writer has appended stands in the slices that it held
+pub left : {w w' : Writer} {t : List Cell} {bs' ns' : List ℕ} → Wrote w w' t → bs' ≡ w'.bytes.now → ns' ≡ w'.numbers.now → AppendsIn w.bytes.now w.numbers.now w.end w.at.0 bs' ns' w'.at.0 t
+left p e f = rw (e, f) p.text
 
 -- ---- building
 

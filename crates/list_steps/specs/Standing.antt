@@ -19,7 +19,7 @@ use Rattle.lending.specs.declared.lent.Refusal.{Refusal}
 use Rattle.lending.specs.declared.lent.Refusal.TheVariants.{TooDeep, NoSpace}
 use Rattle.list_blocks.specs.declared.tag.Tag.{Tag}
 use Rattle.list_blocks.specs.declared.tag.Tag.TheVariants.{Opener, Item, Closer, Plain}
-use Rattle.list_blocks.specs.Blocks.{block, between, parts_in, Rises}
+use Rattle.list_blocks.specs.Blocks.{kind_of, block, between, parts_in, Rises}
 use Rattle.list_blocks.specs.Tags.{Token, tokens, pushes, too_deep}
 use Rattle.list_blocks.specs.Lists.{Open, State, ends_in_feed, close, started, closed, run, lists, run_need, lists_need}
 use Rattle.list_steps.specs.declared.close.Areas.{Areas}
@@ -43,9 +43,6 @@ contents s = outers s.lists ++ s.now
 unfoldable pub starts_from : (p : ℕ) → List (List Cell) → List ℕ
 starts_from p [] = p ∷ []
 starts_from p (x ∷ xs) = p ∷ starts_from (p + length x) xs
-
-unfoldable pub kind_of : (ordered second : Bool) → ℕ
-kind_of ordered second = cond ordered 2 0 + cond second 1 0
 
 pub record Frames : Type 0 where
   pub first : ℕ
@@ -99,6 +96,14 @@ closing_at bs ns table at top first =
     replicate (feeds_before bs ns first table) feed
     ++ (block (leb 2 (get_or ns (first + 1) 0)) (eqb (get_or ns (first + 1) 0 % 2) 1) (parts_in (cells bs ns) (between (first + 2) top ns) at)
     ++ replicate (cond (eqb first table) 2 1) feed)
+
+-- the frame at `first`: where the one around it stands, its list's kind, and where its lead begins
+pub record FrameAt (ns : List ℕ) (first outer : ℕ) (ordered second : Bool) (lead : ℕ) : Type 0 where
+  pub outer-is : outer ≡ get_or ns first 0
+  pub outer-small : outer ≤ number_most
+  pub ordered-is : ordered ≡ leb 2 (get_or ns (first + 1) 0)
+  pub second-is : second ≡ eqb (get_or ns (first + 1) 0 % 2) 1
+  pub lead-is : lead ≡ get_or ns (first + 2) 0
 
 -- what reading the table at `first` takes
 pub record Framed (bs ns : List ℕ) (table at top first : ℕ) : Type 0 where

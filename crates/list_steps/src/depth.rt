@@ -1,5 +1,5 @@
 // How many lists are open.
-ghost use Rattle.std.specs.Prelude.{◌≡◌, ◌-◌, ◌≤◌};
+ghost use Rattle.std.specs.Prelude.{◌≡◌, ◌≤◌};
 ghost use Rattle.text.specs.Bounds.{deep_most};
 ghost use Rattle.list_steps.specs.Standing.{depth_by};
 
@@ -12,17 +12,7 @@ pub fn depth_after(tag: Tag, depth: usize) -> usize
 {
     match tag {
         Tag::Opener(_, _) => depth + 1,
-        Tag::Item => depth,
-        Tag::Closer => less(depth),
-        Tag::Plain => depth,
+        Tag::Closer => depth.saturating_sub(1),
+        Tag::Item | Tag::Plain => depth,
     }
-}
-
-fn less(depth: usize) -> usize
-    ensures { result ≡ depth - 1 }
-{
-    if depth == 0 {
-        return 0;
-    }
-    depth - 1
 }

@@ -1,41 +1,39 @@
-use borrow.Author.Rules.{rules}
 use native.Mathlib.Omega.{arith}
-use mathlib.Core.Path.{refl}
-use Rattle.text.proofs.Areas.{WritingIn, start_in}
+use mathlib.Core.Path.{◌≡◌, refl}
+use Prim.Native.Nat.{◌+◌, ◌-◌}
 use Rattle.list_blocks.proofs.BlockLaws.{rises_next}
-use Rattle.list_blocks.proofs.Kept.{items-here, items-turn-in, items-done-in}
+use Rattle.list_blocks.proofs.Kept.{items-here, items-turn, items-done}
 use Rattle.list_blocks.proofs.block.put_items.Goals as goal
 
-pub loop-i-init : goal.loop-i-init
-loop-i-init c = let p = c.requires in
-    (search rules, refl, refl, omega arith, omega (arith, p.0.1), p.1.rises, start_in _ _ _ _ _)
+pub bounds-w-i : goal.bounds-w-i
+bounds-w-i c = let z = c.requires.1 in
+    let v = c.loop-i.invariant in
+    let h = items-here c.args.w.now c.loop-i.w v.2.wrote c.args.k.0 c.loop-i.i c.args.last.0 c.args.e.0 (omega arith) (omega arith) z.table.0 z.table.1 v.1 in
+    omega arith
 
-pub put_next-next-requires : goal.put_next-next-requires
-put_next-next-requires c = let l = c.loop-i in
-    let w : WritingIn _ _ _ _ _ _ _ _ _ = l.invariant.6 in
-    let lt = c.loop-i-test.true in
-    let z = c.requires.1 in
-    let t = items-here w.wrote c.args.k.0 l.i c.args.last.0 c.args.e.0 l.invariant.0 lt z.table.0 z.table.1 l.invariant.5 in
-    let q = c.place_of-j.ensures in
-    let g = w.wrote.appends.grows in
-    (((omega (arith, q, t.0), omega (arith, q, t.1, z.parts.0, g)), omega (arith, l.invariant.4, c.requires.0.0, lt)), (omega (arith, q, t.1, z.parts.1), (omega (arith, z.fits.0, l.invariant.1), omega (arith, z.fits.1, l.invariant.2))))
+pub place_of-b-requires : goal.place_of-b-requires
+place_of-b-requires c = let z = c.requires.1 in
+    let v = c.loop-i.invariant in
+    (items-here c.args.w.now c.loop-i.w v.2.wrote c.args.k.0 c.loop-i.i c.args.last.0 c.args.e.0 (omega arith) (omega arith) z.table.0 z.table.1 v.1).0
 
-pub overflow_add-index : goal.overflow_add-index
-overflow_add-index c = omega (arith, c.loop-i.invariant.3, c.requires.0.0, c.loop-i-test.true)
+pub put_next-held-requires : goal.put_next-held-requires
+put_next-held-requires c = let z = c.requires.1 in
+    let v = c.loop-i.invariant in
+    let h = (items-here c.args.w.now c.loop-i.w v.2.wrote c.args.k.0 c.loop-i.i c.args.last.0 c.args.e.0 (omega arith) (omega arith) z.table.0 z.table.1 v.1).1 in
+    let q = c.place_of-b.ensures in
+    let g = v.2.wrote.text.appends.grows in
+    let e = v.2.wrote.same.end in
+    ((omega arith, (omega arith, omega arith)), omega arith)
 
 pub loop-i-preserved : goal.loop-i-preserved
-loop-i-preserved c = let l = c.loop-i in
-    let z = c.requires.1 in
-    let lt = c.loop-i-test.true in
-    let b = c.put_next-next.ensures in (
-      search rules,
-      search rules,
-      search rules,
-      omega (arith, l.invariant.3),
-      omega (arith, l.invariant.4, b.few),
-      rises_next l.i c.args.last.0 c.args.e.0 _ lt z.table.0 l.invariant.5,
-      items-turn-in _ _ _ _ _ c.args.k.0 l.i c.args.last.0 c.args.e.0 _ _ l.invariant.0 lt z.table.0 z.table.1 z.parts.0 l.invariant.5 refl c.place_of-j.ensures l.invariant.6 b,
+loop-i-preserved c = let z = c.requires.1 in
+    let v = c.loop-i.invariant in
+    let b = c.put_next-held.ensures in
+    let n : c.loop-i.i + 1 - c.args.k.0 + 1 ≡ c.loop-i.i - c.args.k.0 + 1 + 1 = omega arith in (
+      (let f = b.few in omega arith),
+      rises_next c.loop-i.i c.args.last.0 c.args.e.0 _ (omega arith) z.table.0 v.1,
+      rw n (items-turn c.args.w.now c.loop-i.w c.args.kind.ordered c.args.kind.second c.loop-i.held c.put_next-held.result (c.loop-i.i - c.args.k.0 + 1) c.args.k.0 c.loop-i.i c.args.last.0 c.args.e.0 _ _ (omega arith) (omega arith) z.table.0 z.table.1 z.parts.0 v.1 refl c.place_of-b.ensures v.2 b),
     )
 
 pub returns : goal.returns
-returns c = let l = c.loop-i in items-done-in _ _ _ _ l.i _ _ _ _ c.loop-i-test.false l.invariant.6
+returns c = items-done _ _ _ _ _ _ _ _ _ (omega arith) c.loop-i.invariant.2

@@ -1,14 +1,11 @@
-use mathlib.Core.Path.{◌≡◌}
 use Prim.Native.Nat.{◌-◌}
-use lib.ListN.{length}
-use Rattle.text.specs.Cells.{cells}
-use Rattle.text.proofs.Areas.{WritingIn}
 use Rattle.list_blocks.proofs.ItemWriting.{later_from}
+use Rattle.text.proofs.Writers.{Writing}
+use Rattle.list_blocks.proofs.Kept.{seen}
 use Rattle.list_blocks.proofs.item.put_later_lines.Given as goal
 
 abbrev pub invariant-loop-i : goal.invariant-loop-i
-invariant-loop-i l = (length l.work ≡ length l.initial.work) × (length l.numbers ≡ length l.initial.numbers)
-    × WritingIn l.initial.work l.initial.numbers l.end l.initial.to.0 l.work l.numbers l.to.0 (later_from l.width l.i l.e.0 (cells l.initial.work l.initial.numbers)) (later_from l.width l.initial.i l.e.0 (cells l.initial.work l.initial.numbers))
+invariant-loop-i l = Writing l.initial.w l.w (later_from l.width l.i l.e.0 (seen l.initial.w)) (later_from l.width l.initial.i l.e.0 (seen l.initial.w))
 
 abbrev pub decreases-loop-i : goal.decreases-loop-i
-decreases-loop-i l = l.last - l.i
+decreases-loop-i l = l.e.0 - l.i

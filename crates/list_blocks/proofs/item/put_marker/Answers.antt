@@ -1,8 +1,20 @@
-use Rattle.list_blocks.proofs.Kept.{plain_in, ordered-in}
+use mathlib.Core.Path.{◌∙◌, ap}
+use mathlib.Core.Bool.{Bool, cond}
+use Rattle.text.proofs.Writers.{wrote-then, wrote-as}
+use Rattle.list_blocks.proofs.Markers.{marker-plain, marker-ordered}
+use Rattle.list_blocks.proofs.item.put_marker.Goals.{then-kind, else-kind}
 use Rattle.list_blocks.proofs.item.put_marker.Goals as goal
 
-pub returns-then-kind : goal.returns-then-kind
-returns-then-kind c = ordered-in _ _ _ c.if-kind.true c.marker_sign.ensures c.put_decimal-x.ensures c.put_sign_in-y.ensures c.put_in.ensures
-
 pub returns : goal.returns
-returns c = plain_in _ _ _ c.if-kind.false c.marker_sign-2.ensures c.put_sign_in-z.ensures c.put_in-2.ensures
+returns c =
+    let o = c.args.kind.ordered in
+    let s = c.args.kind.second in
+    let q = c.sign.ensures in
+    elim c.if-kind.branch [
+      | then-kind w ↦
+          wrote-as (marker-ordered o s c.args.index c.sign.result w.if-kind.true (q ∙ ap (λ (t : Bool). cond t (cond s 41 46) (cond s 42 45)) w.if-kind.true))
+          (wrote-then w.put_decimal.ensures (wrote-then (rw w.w-is at c.put_sign.ensures) c.put_space.ensures))
+      | else-kind w ↦
+          wrote-as (marker-plain o s c.args.index c.sign.result w.if-kind.false (q ∙ ap (λ (t : Bool). cond t (cond s 41 46) (cond s 42 45)) w.if-kind.false))
+          (wrote-then (rw w.w-is at c.put_sign.ensures) c.put_space.ensures)
+    ]

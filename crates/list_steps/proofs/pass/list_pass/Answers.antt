@@ -1,6 +1,7 @@
 use borrow.Author.Rules.{rules}
 use native.Mathlib.Omega.{arith}
-use mathlib.Core.Path.{refl, sym, ap, ◌∙◌}
+use mathlib.Core.Path.{◌≡◌, refl, sym, ap, ◌∙◌}
+use Prim.Native.Nat.{◌+◌}
 use mathlib.Core.List.{List}
 use lib.ListN.{take}
 use Rattle.text.specs.Cells.{Cell, cells, part}
@@ -48,8 +49,8 @@ overflow_sub-st c = let p = c.requires in
     let b = base-within _ _ _ _ x.areas.base.0 _ _ _ _ _ _ _ _ v.5 lb v.2 (omega (arith, v.0.0, k.0)) (omega (arith, v.0.1, k.1.0)) in
     omega (arith, b)
 
-pub step-st-requires : goal.step-st-requires
-step-st-requires c = let p = c.requires in
+pub step-requires : goal.step-requires
+step-requires c = let p = c.requires in
     let x = c.args in
     let l = c.loop-i in
     let v = l.invariant in
@@ -60,31 +61,24 @@ step-st-requires c = let p = c.requires in
     let t = turn-pushes _ _ _ _ x.areas.base.0 _ _ _ _ _ _ _ l.i _ v.5 lb v.2 (omega (arith, v.0.0, k.0)) (omega (arith, v.0.1, k.1.0)) c.loop-i-test.true p.0.1 _ c.tag_at-tag.ensures _ c.rest_of-n.ensures in
     (running-ready _ _ _ _ x.areas.base.0 _ _ _ _ _ _ _ _ v.5 lb v.2 (omega (arith, v.0.0, k.0)) (omega (arith, v.0.1, k.1.0)) (omega (arith, v.0.1, z.1.1)), ((omega (arith, s.0, p.0.1), s.1.0), (omega (arith, v.4, t, v.0.1), (z.0, (omega (arith, v.0.0, z.1.0), omega (arith, v.0.1, z.1.1))))))
 
-pub stopped-requires : goal.stopped-requires
-stopped-requires c = let p = c.requires in
-    let l = c.loop-i in
-    let v = l.invariant in
-    let z = p.1.0 in
-    ((v.1, v.6), (omega (arith, c.step-st.auto.work, v.0.0, p.0.1, z.0.0, z.1.0), (omega (arith, c.step-st.auto.numbers, v.0.1, p.0.1, z.0, p.1.1), omega (arith, c.step-st.auto.numbers, v.0.1, z.1.1))))
+pub shape_of-work-then-areas-st : goal.shape_of-work-then-areas-st
+shape_of-work-then-areas-st c = omega (arith, c.loop-i.invariant.0.0, c.step.auto.work)
 
-pub shape_of-work-then-end-at : goal.shape_of-work-then-end-at
-shape_of-work-then-end-at c = omega (arith, c.loop-i.invariant.0.0, c.step-st.auto.work)
+pub shape_of-numbers-then-areas-st : goal.shape_of-numbers-then-areas-st
+shape_of-numbers-then-areas-st c = omega (arith, c.loop-i.invariant.0.1, c.step.auto.numbers)
 
-pub shape_of-numbers-then-end-at : goal.shape_of-numbers-then-end-at
-shape_of-numbers-then-end-at c = omega (arith, c.loop-i.invariant.0.1, c.step-st.auto.numbers)
-
-pub returns-then-end-at : goal.returns-then-end-at
-returns-then-end-at c = let p = c.requires in
+pub returns-then-areas-st : goal.returns-then-areas-st
+returns-then-areas-st c = let p = c.requires in
     let x = c.args in
     let l = c.loop-i in
     let v = l.invariant in
     let z = p.1.0 in
     let k = room x.areas.base.0 x.areas.end.0 x.areas.table.0 _ _ _ z.0.0 z.0.1 z.1.0 p.1.1 in
     let lb = before-length x.work.now x.numbers.now x.areas.base.0 x.areas.end.0 z.0.0 k.0 k.1.0 in
-    let q = c.step-st.ensures in
-    let d = turn-left _ _ _ _ x.areas.base.0 _ _ _ _ _ _ _ l.i _ v.5 lb v.2 (omega (arith, v.0.0, k.0)) (omega (arith, v.0.1, k.1.0)) c.loop-i-test.true p.0.1 _ c.tag_at-tag.ensures _ c.rest_of-n.ensures _ _ (stays-cells q.2) (omega (arith, v.0.0, c.step-st.auto.work, k.0)) (omega (arith, v.0.1, c.step-st.auto.numbers, k.1.0)) in (
+    let q = c.step.ensures in
+    let d = turn-left _ _ _ _ x.areas.base.0 _ _ _ _ _ _ _ l.i _ v.5 lb v.2 (omega (arith, v.0.0, k.0)) (omega (arith, v.0.1, k.1.0)) c.loop-i-test.true p.0.1 _ c.tag_at-tag.ensures _ c.rest_of-n.ensures _ _ (stays-cells q.2) (omega (arith, v.0.0, c.step.auto.work, k.0)) (omega (arith, v.0.1, c.step.auto.numbers, k.1.0)) in (
       passes-stopped (part x.a.0 x.e.0 (cells x.work.now x.numbers.now)) _ _ _ (v.7 ∙ sym (ap (λ (w : List Cell). deeper l.depth (tokens 0 w)) d))
-          (λ _. turn-over _ _ _ _ x.areas.base.0 _ _ _ _ _ _ _ l.i _ v.5 lb v.2 (omega (arith, v.0.0, k.0)) (omega (arith, v.0.1, k.1.0)) c.loop-i-test.true p.0.1 _ c.tag_at-tag.ensures _ c.rest_of-n.ensures _ _ _ _ _ _ q.0 (omega (arith, v.0.0, c.step-st.auto.work, k.0)) (omega (arith, v.0.1, c.step-st.auto.numbers, k.1.0)) c.if-end-at.true)
+          (λ _. turn-over _ _ _ _ x.areas.base.0 _ _ _ _ _ _ _ l.i _ v.5 lb v.2 (omega (arith, v.0.0, k.0)) (omega (arith, v.0.1, k.1.0)) c.loop-i-test.true p.0.1 _ c.tag_at-tag.ensures _ c.rest_of-n.ensures _ _ _ _ _ _ q.0 (omega (arith, v.0.0, c.step.auto.work, k.0)) (omega (arith, v.0.1, c.step.auto.numbers, k.1.0)) c.if-areas-st.true)
           c.stopped.ensures,
       stays_then v.8 q.2,
     )
@@ -135,10 +129,12 @@ loop-i-preserved c = let p = c.requires in
     let y = turn-reads _ _ _ _ x.areas.base.0 _ _ _ _ _ _ _ l.i _ v.5 lb v.2 (omega (arith, v.0.0, k.0)) (omega (arith, v.0.1, k.1.0)) c.loop-i-test.true p.0.1 _ c.tag_at-tag.ensures _ c.rest_of-n.ensures in
     let d = c.depth_after-deep.ensures in
     let g = c.max-seen.ensures in
-    let q = c.step-st.ensures in (
+    let q = c.step.ensures in
+    let e : l.i + (c.rest_of-n.result + 1) ≡ l.i + c.rest_of-n.result + 1 = omega arith in
+    rw e (
       (search rules, search rules),
       omega (arith, s.0),
-      omega (arith, c.if-end-at.false),
+      omega (arith, c.if-areas-st.false),
       omega (arith, g, v.2, v.3),
       omega (arith, v.4, q.1, t),
       turn-goes _ _ _ _ x.areas.base.0 _ _ _ _ _ _ _ l.i _ v.5 lb v.2 (omega (arith, v.0.0, k.0)) (omega (arith, v.0.1, k.1.0)) c.loop-i-test.true p.0.1 _ c.tag_at-tag.ensures _ c.rest_of-n.ensures _ _ _ _ _ _ q.0 _ g,
@@ -147,8 +143,8 @@ loop-i-preserved c = let p = c.requires in
       stays_then v.8 q.2,
     )
 
-pub finish_lists-requires : goal.finish_lists-requires
-finish_lists-requires c = let p = c.requires in
+pub finish-requires : goal.finish-requires
+finish-requires c = let p = c.requires in
     let x = c.args in
     let l = c.loop-i in
     let v = l.invariant in
@@ -165,8 +161,8 @@ returns c = let p = c.requires in
     let z = p.1.0 in
     let k = room x.areas.base.0 x.areas.end.0 x.areas.table.0 _ _ _ z.0.0 z.0.1 z.1.0 p.1.1 in
     let lb = before-length x.work.now x.numbers.now x.areas.base.0 x.areas.end.0 z.0.0 k.0 k.1.0 in
-    let r = c.finish_lists.ensures in (
-      passes-ends (part x.a.0 x.e.0 (cells x.work.now x.numbers.now)) _ _ _ _ c.finish_lists.result (v.7 ∙ deep-end l.i _ _ _ c.loop-i-test.false)
+    let r = c.finish.ensures in (
+      passes-ends (part x.a.0 x.e.0 (cells x.work.now x.numbers.now)) _ _ _ _ c.finish.result (v.7 ∙ deep-end l.i _ _ _ c.loop-i-test.false)
           (r.0 (part x.a.0 x.e.0 (cells x.work.now x.numbers.now)) (take x.areas.base.0 (cells x.work.now x.numbers.now)) lb (running-end _ _ _ _ _ _ _ _ _ _ _ l.i _ c.loop-i-test.false v.5)),
       stays_then v.8 r.1,
     )

@@ -15,4 +15,4 @@ invariant-loop-i l = ((length l.work ≡ length l.initial.work) × (length l.num
     × StaysIn l.areas l.initial.work l.initial.numbers l.work l.numbers
 
 abbrev pub decreases-loop-i : goal.decreases-loop-i
-decreases-loop-i l = l.last - l.i
+decreases-loop-i l = l.e.0 - l.i
