@@ -36,18 +36,12 @@ fn skip_blank(src: &[u8], from: &[u32], i: usize) -> usize
     requires { (i ≤ length src.now) × (length src.now ≤ length from.now) }
     ensures { Skips (cells src.now from.now) i result }
 {
-    let mut r = i;
-    while r < src.len() {
-        if src[r] == b']' {
-            return r;
-        }
-        if is_blank(from[r]) {
-            r += 1;
-        } else {
+    for r in i..src.len() {
+        if src[r] == b']' || !is_blank(from[r]) {
             return r;
         }
     }
-    r
+    src.len()
 }
 
 // What a text that begins with `[list=` begins with.
@@ -56,17 +50,11 @@ fn valued_at(src: &[u8], from: &[u32]) -> Tag
     ensures { result ≡ valued (drop 6 (cells src.now from.now)) }
 {
     let one = skip_blank(src, from, 6);
-    if src.len() <= one {
-        return Tag::Plain;
-    }
-    if src[one] != b'1' {
+    if src.len() <= one || src[one] != b'1' {
         return Tag::Plain;
     }
     let end = skip_blank(src, from, one + 1);
-    if src.len() <= end {
-        return Tag::Plain;
-    }
-    if src[end] != b']' {
+    if src.len() <= end || src[end] != b']' {
         return Tag::Plain;
     }
     Tag::Opener(end, true)
@@ -78,12 +66,12 @@ fn opener_at(src: &[u8], from: &[u32]) -> Tag
     ensures { result ≡ tag_at (cells src.now from.now) }
 {
     if begins_at(src, PostAt(0), b"[list]") {
-        return Tag::Opener(5, false);
+        Tag::Opener(5, false)
+    } else if begins_at(src, PostAt(0), b"[list=") {
+        valued_at(src, from)
+    } else {
+        Tag::Plain
     }
-    if begins_at(src, PostAt(0), b"[list=") {
-        return valued_at(src, from);
-    }
-    Tag::Plain
 }
 
 // The tag that a text begins with. The first two bytes say which one it can be.
@@ -94,21 +82,10 @@ pub fn tag_at(src: &[u8], from: &[u32]) -> Tag
     if byte_at(src, 0) != b'[' {
         return Tag::Plain;
     }
-    let second = small_of(byte_at(src, 1));
-    if second == b'l' {
-        return opener_at(src, from);
+    match small_of(byte_at(src, 1)) {
+        b'l' => opener_at(src, from),
+        b'*' if begins_at(src, PostAt(0), b"[*]") => Tag::Item,
+        b'/' if begins_at(src, PostAt(0), b"[/list]") => Tag::Closer,
+        _ => Tag::Plain,
     }
-    if second == b'*' {
-        if begins_at(src, PostAt(0), b"[*]") {
-            return Tag::Item;
-        }
-        return Tag::Plain;
-    }
-    if second == b'/' {
-        if begins_at(src, PostAt(0), b"[/list]") {
-            return Tag::Closer;
-        }
-        return Tag::Plain;
-    }
-    Tag::Plain
 }
