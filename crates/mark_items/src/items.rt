@@ -26,24 +26,20 @@ fn code_of(nums: &[u32], n: usize, depth: usize, tag: u32) -> u32
     ensures { result ≡ code_of tag (ends (numbered_tag tag) (stack_of nums.now n depth)) }
 {
     if tag < 12 {
-        return tag;
+        tag
+    } else if depth == 0 {
+        1
+    } else if nums[3 * n + 3 + (depth - 1)] % 4 == tag % 4 {
+        2
+    } else {
+        1
     }
-    if depth == 0 {
-        return 1;
-    }
-    if nums[3 * n + 3 + (depth - 1)] % 4 == tag % 4 {
-        return 2;
-    }
-    1
 }
 
 fn width_of(tag: u32) -> usize
     ensures { result ≡ width_of tag }
 {
-    if tag < 12 {
-        return 3;
-    }
-    4
+    if tag < 12 { 3 } else { 4 }
 }
 
 // The stack of open kinds after a tag with its item's code.
@@ -53,12 +49,12 @@ fn stack_after(nums: &mut [u32], n: usize, depth: usize, tag: u32, code: u32) ->
 {
     if tag < 12 {
         nums[3 * n + 3 + depth] = tag;
-        return depth + 1;
+        depth + 1
+    } else if code == 2 {
+        depth - 1
+    } else {
+        depth
     }
-    if code == 2 {
-        return depth - 1;
-    }
-    depth
 }
 
 // Reads the tags of a text. The number of items.
@@ -68,9 +64,10 @@ pub fn read_tags(text: &[u8], nums: &mut [u32]) -> usize
 {
     let n = text.len();
     nums[n] = 0;
-    let mut i: usize = 0;
-    let mut j: usize = 0;
-    let mut depth: usize = 0;
+    let mut i = 0;
+    let mut j = 0;
+    let mut depth = 0;
+    // A while: the steps differ.
     while i < n {
         let tag = tag_at(text, i);
         if tag == 0 {
@@ -96,17 +93,16 @@ fn settle_item(nums: &mut [u32], n: usize, j: usize, closes: usize) -> usize
 {
     let code = nums[2 * n + 2 + j];
     if code == 2 {
-        return closes + 1;
-    }
-    if code < 8 {
-        return closes;
-    }
-    if closes == 0 {
+        closes + 1
+    } else if code < 8 {
+        closes
+    } else if closes == 0 {
         nums[2 * n + 2 + j] = 0;
-        return 0;
+        0
+    } else {
+        nums[2 * n + 2 + j] = code % 4 + 4;
+        closes - 1
     }
-    nums[2 * n + 2 + j] = code % 4 + 4;
-    closes - 1
 }
 
 // Settles k items, from the right.

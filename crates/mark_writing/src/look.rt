@@ -1,4 +1,4 @@
-// Looking through a slot. A slot is given by the number of its first item.
+// Looking through a slot. A slot is given by the number of its first item. Its loops are whiles: a mark is passed over in one step.
 ghost use Rattle.std.specs.Prelude.{◌≡◌, true, ◌+◌, ◌-◌, ◌*◌, ◌≤◌, ◌<◌, length, get_or};
 ghost use Rattle.mark_tags.specs.Marks.{next, next_byte, marked};
 ghost use Rattle.mark_tags.specs.Flat.{within, slot_at, Held, Ready};

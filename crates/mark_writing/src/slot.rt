@@ -227,8 +227,10 @@ pub fn write_slot(
     let mut i = from;
     let mut to = at;
     let mut c = count;
+    // 256 for no character, as a table is read without a branch
     let mut before: usize = 256;
     let mut guarded = false;
+    // A while: the steps differ.
     while i < k {
         match w.items_of(&work[..], &numbers[..]).look(i, depth) {
             Seen::End => {

@@ -15,5 +15,5 @@ returns-then-depth-eq0 c = let a = c.args in code-none a.nums.now a.n a.depth a.
 pub returns-then-nums-n : goal.returns-then-nums-n
 returns-then-nums-n c = let a = c.args in code-ends a.nums.now a.n a.depth a.tag (omega arith) c.if-depth-eq0.false c.if-nums-n.true
 
-pub returns : goal.returns
-returns c = let a = c.args in code_other a.nums.now a.n a.depth a.tag (omega arith) c.if-depth-eq0.false c.if-nums-n.false
+pub returns-else-nums-n : goal.returns-else-nums-n
+returns-else-nums-n c = let a = c.args in code_other a.nums.now a.n a.depth a.tag (omega arith) c.if-depth-eq0.false c.if-nums-n.false

@@ -11,5 +11,5 @@ returns-then-code-lt8 c = let a = c.args in settled-kept a.nums.now a.n a.j a.cl
 pub returns-then-closes-eq0 : goal.returns-then-closes-eq0
 returns-then-closes-eq0 c = let a = c.args in settled-text a.nums.now a.n a.j a.closes (omega arith) (omega arith) c.if-code-lt8.false c.if-closes-eq0.true
 
-pub returns : goal.returns
-returns c = let a = c.args in settled-mark a.nums.now a.n a.j a.closes (omega arith) (omega arith) c.if-code-lt8.false c.if-closes-eq0.false
+pub returns-else-closes-eq0 : goal.returns-else-closes-eq0
+returns-else-closes-eq0 c = let a = c.args in settled-mark a.nums.now a.n a.j a.closes (omega arith) (omega arith) c.if-code-lt8.false c.if-closes-eq0.false

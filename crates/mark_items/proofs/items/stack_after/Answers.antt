@@ -12,5 +12,5 @@ overflow_sub-result c = let a = c.args in let pre = c.requires in let d = ended-
 pub returns-then-code-eq2 : goal.returns-then-code-eq2
 returns-then-code-eq2 c = let a = c.args in let pre = c.requires in stacked-end a.nums.now a.n a.depth a.tag a.code (omega arith) pre.0.1 c.if-code-eq2.true
 
-pub returns : goal.returns
-returns c = let a = c.args in let pre = c.requires in stacked-other a.nums.now a.n a.depth a.tag a.code (omega arith) pre.0.1 c.if-code-eq2.false
+pub returns-else-code-eq2 : goal.returns-else-code-eq2
+returns-else-code-eq2 c = let a = c.args in let pre = c.requires in stacked-other a.nums.now a.n a.depth a.tag a.code (omega arith) pre.0.1 c.if-code-eq2.false

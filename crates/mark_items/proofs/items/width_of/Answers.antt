@@ -7,6 +7,6 @@ pub returns-then-tag-lt12 : goal.returns-then-tag-lt12
 unfolding width_of
 returns-then-tag-lt12 c = sym (search decide depth 12)
 
-pub returns : goal.returns
+pub returns-else-tag-lt12 : goal.returns-else-tag-lt12
 unfolding width_of
-returns c = sym (search decide depth 12)
+returns-else-tag-lt12 c = sym (search decide depth 12)
