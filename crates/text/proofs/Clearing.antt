@@ -63,6 +63,11 @@ pub laid-cleared : (xs out : List ℕ) (n m : ℕ) → length out ≡ m → leng
 unfolding cleared padded
 laid-cleared xs out n m h k e = rw (h, k, e)
 
+-- a text that has been laid out, once the rest is filled with zeros
+pub laid-filled : (xs out ys : List ℕ) (n m : ℕ) → length out ≡ m → length xs ≡ n → n ≤ m → take n out ≡ xs
+    → (((y : ℕ) → y ≡ 0 → y ≡ 0) → ys ≡ replicate (length (take (length out - n) (drop n out))) 0) → put_mid n (length out - n) out ys ≡ padded m xs
+laid-filled xs out ys n m h k le e filled = fill_cleared n out ys (omega arith) filled ∙ laid-cleared xs out n m h k e
+
 pub length-mapped : (f : ℕ → ℕ) (xs : List ℕ) (n : ℕ) → n ≤ length xs → length (map f (take n xs)) ≡ n
 length-mapped f xs n h = length-map (take n xs) f ∙ length-take-le n xs h
 

@@ -11,11 +11,7 @@ pub fn set_source(text: &[u8], work: &mut [u8])
     requires { length text.now ≤ length work.old }
     ensures { take (length text.now) work.new ≡ text.now }
 {
-    let mut i: usize = 0;
-    while i < text.len() {
-        work[i] = text[i];
-        i += 1;
-    }
+    work[..text.len()].copy_from_slice(text);
 }
 
 // A text becomes cells, which stand in work memory from a place on.

@@ -4,24 +4,16 @@ ghost use Rattle.text.specs.Cells.{cell, cells, origin_of, part, sign};
 ghost use Rattle.text.specs.Decimal.{decimal};
 ghost use Rattle.text.specs.Writes.{Appends, padded, LaidOut};
 
-use crate::bounds::FULL;
+use crate::area::put_in;
 use crate::cell::{RULE_SIGN, origin_of};
-use crate::zero::{zero8, zero32};
 use crate::{TextAt, WorkAt};
 
 // Appends one cell.
 pub fn put(buf: &mut [u8], nums: &mut [u32], at: TextAt, b: u8, x: u32) -> TextAt
     ensures { Appends (cells buf.old nums.old) at.0 (cells buf.new nums.new) result.0 (cell b x ∷ []) }
 {
-    let i = at.0;
-    if i < buf.len() {
-        if i < nums.len() {
-            buf[i] = b;
-            nums[i] = x;
-            return TextAt(i + 1);
-        }
-    }
-    TextAt(FULL)
+    let end = buf.len().min(nums.len());
+    TextAt(put_in(buf, nums, end, WorkAt(at.0), b, x).0)
 }
 
 // Appends a byte that a rule writes and that is not blank.
@@ -36,10 +28,10 @@ pub fn put_decimal(n: u32, buf: &mut [u8], nums: &mut [u32], at: TextAt) -> Text
     ensures { Appends (cells buf.old nums.old) at.0 (cells buf.new nums.new) result.0 (map sign (decimal n)) }
 {
     if n < 10 {
-        return put_sign(buf, nums, at, (48 + n) as u8);
+        return put_sign(buf, nums, at, b'0' + n as u8);
     }
     let front = put_decimal(n / 10, buf, nums, at);
-    put_sign(buf, nums, front, (48 + n % 10) as u8)
+    put_sign(buf, nums, front, b'0' + (n % 10) as u8)
 }
 
 // Lays out the first n bytes of a source, with zeros behind them.
@@ -47,12 +39,8 @@ fn lay_bytes(src: &[u8], n: usize, out: &mut [u8])
     requires { (n ≤ length src.now) × (n ≤ length out.old) }
     ensures { out.new ≡ padded (length out.old) (take n src.now) }
 {
-    let mut i: usize = 0;
-    while i < n {
-        out[i] = src[i];
-        i += 1;
-    }
-    zero8(out, TextAt(n));
+    out[..n].copy_from_slice(&src[..n]);
+    out[n..].fill(0);
 }
 
 // Lays out the origins of the first n numbers of a source, with zeros behind them.
@@ -60,12 +48,10 @@ fn lay_origins(from: &[u32], n: usize, plain: &mut [u32])
     requires { (n ≤ length from.now) × (n ≤ length plain.old) }
     ensures { plain.new ≡ padded (length plain.old) (map origin_of (take n from.now)) }
 {
-    let mut i: usize = 0;
-    while i < n {
+    for i in 0..n {
         plain[i] = origin_of(from[i]);
-        i += 1;
     }
-    zero32(plain, TextAt(n));
+    plain[n..].fill(0);
 }
 
 // Lays out the first n cells of a source as text and origins, with zeros behind them.
@@ -82,15 +68,13 @@ pub fn lay_part(src: &[u8], from: &[u32], a: WorkAt, e: WorkAt, out: &mut [u8], 
     requires { ((a.0 ≤ e.0) × ((e.0 ≤ length src.now) × (e.0 ≤ length from.now))) × ((e.0 ≤ a.0 + length out.old) × (e.0 ≤ a.0 + length plain.old)) }
     ensures { LaidOut (part a.0 e.0 (cells src.now from.now)) (length out.old) (length plain.old) out.new plain.new }
 {
-    let i = a.0;
-    let j = e.0;
-    lay_out(&src[i..j], &from[i..j], j - i, out, plain);
+    lay_out(&src[a.0..e.0], &from[a.0..e.0], e.0 - a.0, out, plain);
 }
 
 // Lays out nothing: zeros.
 pub fn lay_nothing(out: &mut [u8], plain: &mut [u32])
     ensures { LaidOut [] (length out.old) (length plain.old) out.new plain.new }
 {
-    zero8(out, TextAt(0));
-    zero32(plain, TextAt(0));
+    out.fill(0);
+    plain.fill(0);
 }

@@ -1,5 +1,4 @@
 use mathlib.Core.Path.{◌≡◌}
-use Prim.Native.Nat.{◌-◌, ◌≤◌}
 use lib.ListN.{length}
 use mathlib.Core.List.{map}
 use lib.ListN.{take}
@@ -7,7 +6,4 @@ use Rattle.text.specs.Cells.{origin_of}
 use Rattle.text.proofs.write.lay_origins.Given as goal
 
 abbrev pub invariant-loop-i : goal.invariant-loop-i
-invariant-loop-i l = (l.i ≤ l.n) × (length l.plain ≡ length l.initial.plain) × (take l.i l.plain ≡ map origin_of (take l.i l.from))
-
-abbrev pub decreases-loop-i : goal.decreases-loop-i
-decreases-loop-i l = l.n - l.i
+invariant-loop-i l = (length l.plain ≡ length l.fn.plain) × (take l.i l.plain ≡ map origin_of (take l.i l.from))
