@@ -1,19 +1,22 @@
 -- Laws of trimming and of lines, cell by cell. Assumes nothing.
 use mathlib.Core.Path.{◌≡◌, refl, sym, ap, ◌∙◌}
-use mathlib.Core.Bool.{Bool, true, false, cond}
-use Prim.Native.Nat.{ℕ, zero, suc, ◌+◌, ◌≤◌, ◌<◌}
+use mathlib.Core.Bool.{Bool, true, false, cond, ◌&&◌}
+use Prim.Native.Nat.{ℕ, zero, suc, ◌+◌, ◌-◌, ◌≤◌, ◌<◌}
 use native.Mathlib.Nat.{le_of_suc-le-suc, not-suc-le-zero, add-zero}
 use native.Mathlib.Numerals.{add-one}
 use native.Mathlib.Omega.{arith}
 use mathlib.Core.List.{List, [], ◌∷◌, ◌++◌, append-nil}
-use lib.ListN.{length, take, drop, get_or, length-drop}
+use lib.ListN.{length, take, drop, get_or, length-take, length-drop}
 use lib.Seq.{drop-cons, get_or-take, length-take-le}
 use lib.Dec.{eqb}
 use Rattle.text.specs.Ascii.{to_first}
 use Rattle.text.specs.Cells.{Cell, cell, cells, is_blank, part}
+use Rattle.std.specs.Bool.{MatchBool}
+use Rattle.std.specs.List.{AllWithin, HoldsAt}
 use Rattle.text.specs.Lines.{trim_start, trim_onto, trim_end, all_blank, is_feed, line_onto, lines}
 use Rattle.text.proofs.Bytes.{first-within}
 use Rattle.text.proofs.Decide.{and_no}
+use Rattle.text.proofs.Sources.{cells-part}
 use Rattle.text.proofs.Writing.{part_none, part_end, part-cons, part-snoc}
 
 -- ---- from the start
@@ -47,6 +50,39 @@ module _ (x : List Cell) (i e : ℕ) (h : e ≤ i) where
   pub all_blank-end : all_blank (part i e x) ≡ true
   unfolding all_blank
   all_blank-end = rw (part_end i e x h)
+
+-- what `all` over the numbers of a part says of its cells
+all-blank-each : (xs ys : List ℕ) → length xs ≡ length ys → AllWithin (λ x. is_blank x ≡ true) ys 0 (length ys) → true ≡ all_blank (cells xs ys)
+unfolding all_blank cells
+all-blank-each [] ys e h = refl
+all-blank-each (x ∷ xs) [] e h = absurd (omega (arith, e))
+all-blank-each (x ∷ xs) (y ∷ ys) e h =
+    rw (h 0 0 (omega arith) (omega arith)) (all-blank-each xs ys (omega (arith, e)) (λ k d lo hi. h (suc k) d (omega arith) (omega arith)))
+
+all-blank-but : (k : ℕ) (xs ys : List ℕ) → length xs ≡ length ys → k < length ys → HoldsAt (λ x. is_blank x ≡ false) ys k → false ≡ all_blank (cells xs ys)
+unfolding all_blank cells
+all-blank-but k xs [] e lt h = absurd (not-suc-le-zero lt)
+all-blank-but k [] (y ∷ ys) e lt h = absurd (omega (arith, e))
+all-blank-but zero (x ∷ xs) (y ∷ ys) e lt h = rw (h 0)
+all-blank-but (suc k) (x ∷ xs) (y ∷ ys) e lt h = by (is_blank y) (all-blank-but k xs ys (omega (arith, e)) (omega arith) (λ d. h d))
+  where
+    by : (t : Bool) → false ≡ all_blank (cells xs ys) → false ≡ (t && all_blank (cells xs ys))
+    by true h = h
+    by false h = refl
+
+pub all-blank-part : (bs ns : List ℕ) (a e : ℕ) → a ≤ e → e ≤ length bs → e ≤ length ns → (r : Bool)
+    → MatchBool r (AllWithin (λ x. is_blank x ≡ true) (take (e - a) (drop a ns)) 0 (length (take (e - a) (drop a ns))))
+    ((k : ℕ) × (k < length (take (e - a) (drop a ns))) × HoldsAt (λ x. is_blank x ≡ false) (take (e - a) (drop a ns)) k) → r ≡ all_blank (part a e (cells bs ns))
+all-blank-part bs ns a e h k l r found = by r found ∙ ap all_blank (cells-part bs ns a e h k l)
+  where
+    same : length (take (e - a) (drop a bs)) ≡ length (take (e - a) (drop a ns))
+    same = simp (length-take, length-drop) (omega arith)
+
+    by : (r : Bool) → MatchBool r (AllWithin (λ x. is_blank x ≡ true) (take (e - a) (drop a ns)) 0 (length (take (e - a) (drop a ns))))
+        ((k : ℕ) × (k < length (take (e - a) (drop a ns))) × HoldsAt (λ x. is_blank x ≡ false) (take (e - a) (drop a ns)) k)
+        → r ≡ all_blank (cells (take (e - a) (drop a bs)) (take (e - a) (drop a ns)))
+    by true f = all-blank-each (take (e - a) (drop a bs)) (take (e - a) (drop a ns)) same f
+    by false f = all-blank-but f.0 (take (e - a) (drop a bs)) (take (e - a) (drop a ns)) same f.1 f.2
 
 -- ---- from the end
 

@@ -12,16 +12,12 @@ pub fn trim_start(src: &[u8], from: &[u32], a: WorkAt, e: WorkAt) -> WorkAt
     requires { (a.0 ≤ e.0) × ((e.0 ≤ length src.now) × (e.0 ≤ length from.now)) }
     ensures { (a.0 ≤ result.0) × ((result.0 ≤ e.0) × (part result.0 e.0 (cells src.now from.now) ≡ trim_start (part a.0 e.0 (cells src.now from.now)))) }
 {
-    let end = e.0;
-    let mut i = a.0;
-    while i < end {
-        if is_blank(from[i]) {
-            i += 1;
-        } else {
+    for i in a.0..e.0 {
+        if !is_blank(from[i]) {
             return WorkAt(i);
         }
     }
-    WorkAt(i)
+    e
 }
 
 // The place behind the last cell that is not blank, from a up to e, or a.
@@ -29,42 +25,26 @@ pub fn trim_end(src: &[u8], from: &[u32], a: WorkAt, e: WorkAt) -> WorkAt
     requires { (a.0 ≤ e.0) × ((e.0 ≤ length src.now) × (e.0 ≤ length from.now)) }
     ensures { (a.0 ≤ result.0) × ((result.0 ≤ e.0) × (part a.0 result.0 (cells src.now from.now) ≡ trim_end (part a.0 e.0 (cells src.now from.now)))) }
 {
-    let start = a.0;
-    let mut i = e.0;
-    while start < i {
-        if is_blank(from[i - 1]) {
-            i -= 1;
-        } else {
-            return WorkAt(i);
+    for i in (a.0..e.0).rev() {
+        if !is_blank(from[i]) {
+            return WorkAt(i + 1);
         }
     }
-    WorkAt(i)
+    a
 }
 
 pub fn all_blank(src: &[u8], from: &[u32], a: WorkAt, e: WorkAt) -> bool
     requires { (a.0 ≤ e.0) × ((e.0 ≤ length src.now) × (e.0 ≤ length from.now)) }
     ensures { result ≡ all_blank (part a.0 e.0 (cells src.now from.now)) }
 {
-    let end = e.0;
-    let mut i = a.0;
-    while i < end {
-        if is_blank(from[i]) {
-            i += 1;
-        } else {
-            return false;
-        }
-    }
-    true
+    from[a.0..e.0].iter().all(|&x| is_blank(x))
 }
 
 // Whether a cell is a line feed.
 pub fn is_feed(b: u8, x: u32) -> bool
     ensures { result ≡ is_feed (cell b x) }
 {
-    if b == b'\n' {
-        return is_blank(x);
-    }
-    false
+    b == b'\n' && is_blank(x)
 }
 
 // The place of the first line feed from a on, or e.
@@ -72,14 +52,13 @@ pub fn line_end(src: &[u8], from: &[u32], a: WorkAt, e: WorkAt) -> WorkAt
     requires { (a.0 < e.0) × ((e.0 ≤ length src.now) × (e.0 ≤ length from.now)) }
     ensures { (a.0 ≤ result.0) × ((result.0 ≤ e.0) × (lines (part a.0 e.0 (cells src.now from.now)) ≡ part a.0 result.0 (cells src.now from.now) ∷ lines (part (result.0 + 1) e.0 (cells src.now from.now)))) }
 {
-    let end = e.0;
+    // A while: each turn goes on at the next byte of a line feed.
     let mut i = a.0;
-    while i < end {
+    while i < e.0 {
         if is_feed(src[i], from[i]) {
             return WorkAt(i);
         }
-        let next = next_byte(&src[..end], PostAt(i + 1), b'\n');
-        i = next.0;
+        i = next_byte(&src[..e.0], PostAt(i + 1), b'\n').0;
     }
     WorkAt(i)
 }

@@ -1,17 +1,10 @@
-use borrow.Author.Rules.{rules}
-use native.Mathlib.Omega.{arith}
-use mathlib.Core.Path.{refl, sym, ◌∙◌}
-use Rattle.text.proofs.Trimming.{all_blank-blank, all_blank-other, all_blank-end}
+use Rattle.std.proofs.Common.{arith, rules, ◌≡◌, true, false, refl}
+use Rattle.std.proofs.lemmas.Iterator.{cases_from_all, YieldsList-from_slice}
+use Rattle.text.specs.Cells.{is_blank}
+use Rattle.text.proofs.Trimming.{all-blank-part}
 use Rattle.text.proofs.trim.all_blank.Goals as goal
 
-pub loop-i-init : goal.loop-i-init
-loop-i-init c = (search rules, search rules, refl)
-
-pub loop-i-preserved : goal.loop-i-preserved
-loop-i-preserved c = (search rules, search rules, c.loop-i.invariant.2 ∙ all_blank-blank _ _ c.loop-i.i c.args.e.0 (omega arith) (omega arith) (omega arith) (sym c.is_blank.ensures ∙ c.if-is_blank.true))
-
-pub returns-else-is_blank : goal.returns-else-is_blank
-returns-else-is_blank c = sym (c.loop-i.invariant.2 ∙ all_blank-other _ _ c.loop-i.i c.args.e.0 (omega arith) (omega arith) (omega arith) (sym c.is_blank.ensures ∙ c.if-is_blank.false))
-
 pub returns : goal.returns
-returns c = sym (c.loop-i.invariant.2 ∙ all_blank-end _ c.loop-i.i c.args.e.0 (omega arith))
+returns c = let a = c.args in
+    all-blank-part a.src.now a.from.now a.a.0 a.e.0 (omega arith) (omega arith) (omega arith) c.all.result
+    (cases_from_all _ _ _ (λ x. is_blank x ≡ true) (λ x. is_blank x ≡ false) c.all.ensures.ran (YieldsList-from_slice _ c.iter.ensures.rest) (λ x q k. search rules) (λ x q k. search rules))

@@ -1,14 +1,13 @@
-use mathlib.Core.Path.{sym}
+use mathlib.Core.Path.{sym, ◌∙◌}
 use Rattle.text.specs.Lines.{is_feed}
 use Rattle.text.proofs.Decide.{decide}
-use mathlib.Core.Path.{◌∙◌}
-use borrow.Author.Tests.{eq-eqb}
+use borrow.Author.Tests.{eq-eqb, ne_eqb}
 use Rattle.text.proofs.trim.is_feed.Goals as goal
 
 pub returns-then-b-eq10 : goal.returns-then-b-eq10
 unfolding is_feed
 returns-then-b-eq10 c = c.is_blank.ensures ∙ sym (rw (eq-eqb _ _ c.if-b-eq10.true))
 
-pub returns : goal.returns
+pub returns-else-b-eq10 : goal.returns-else-b-eq10
 unfolding is_feed
-returns c = sym (search decide depth 12)
+returns-else-b-eq10 c = sym (search decide depth 12)

@@ -15,17 +15,17 @@ returns-then-is_feed c = let a = c.args in
 pub slice_bounds-next_byte-end : goal.slice_bounds-next_byte-end
 slice_bounds-next_byte-end c = sym (length-take-le c.args.e.0 c.args.src.now (omega (arith, c.requires)))
 
-pub next_byte-next-requires : goal.next_byte-next-requires
-next_byte-next-requires c = let l = length-take-le c.args.e.0 c.args.src.now (omega (arith, c.requires)) in omega arith
+pub next_byte-i-requires : goal.next_byte-i-requires
+next_byte-i-requires c = let l = length-take-le c.args.e.0 c.args.src.now (omega (arith, c.requires)) in omega arith
 
 pub loop-i-smaller : goal.loop-i-smaller
 loop-i-smaller c = let a = c.args in
-    let b = lines-on a.src.now a.from.now a.a.0 c.loop-i.i a.e.0 _ (omega arith) (omega arith) (omega arith) (omega arith) (sym c.is_feed.ensures ∙ c.if-is_feed.false) c.next_byte-next.ensures in
+    let b = lines-on a.src.now a.from.now a.a.0 c.loop-i.i a.e.0 _ (omega arith) (omega arith) (omega arith) (omega arith) (sym c.is_feed.ensures ∙ c.if-is_feed.false) c.next_byte-i.ensures in
     omega (arith, b.0, b.1.0)
 
 pub loop-i-preserved : goal.loop-i-preserved
 loop-i-preserved c = let a = c.args in
-    let b = lines-on a.src.now a.from.now a.a.0 c.loop-i.i a.e.0 _ (omega arith) (omega arith) (omega arith) (omega arith) (sym c.is_feed.ensures ∙ c.if-is_feed.false) c.next_byte-next.ensures in
+    let b = lines-on a.src.now a.from.now a.a.0 c.loop-i.i a.e.0 _ (omega arith) (omega arith) (omega arith) (omega arith) (sym c.is_feed.ensures ∙ c.if-is_feed.false) c.next_byte-i.ensures in
     (omega (arith, b.0, c.loop-i.invariant.0), b.1.0, c.loop-i.invariant.2 ∙ b.1.1)
 
 pub returns : goal.returns

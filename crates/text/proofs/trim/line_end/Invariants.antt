@@ -6,7 +6,7 @@ use Rattle.text.specs.Cells.{cells, part}
 use Rattle.text.proofs.trim.line_end.Given as goal
 
 abbrev pub invariant-loop-i : goal.invariant-loop-i
-invariant-loop-i l = (l.initial.i ≤ l.i) × (l.i ≤ l.end) × (lines (part l.initial.i l.end (cells l.src l.from)) ≡ onto (part l.initial.i l.i (cells l.src l.from)) (lines (part l.i l.end (cells l.src l.from))))
+invariant-loop-i l = (l.initial.i ≤ l.i) × (l.i ≤ l.e.0) × (lines (part l.initial.i l.e.0 (cells l.src l.from)) ≡ onto (part l.initial.i l.i (cells l.src l.from)) (lines (part l.i l.e.0 (cells l.src l.from))))
 
 abbrev pub decreases-loop-i : goal.decreases-loop-i
-decreases-loop-i l = l.end - l.i
+decreases-loop-i l = l.e.0 - l.i

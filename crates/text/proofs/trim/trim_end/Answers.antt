@@ -1,18 +1,18 @@
-use borrow.Author.Rules.{rules}
-use native.Mathlib.Omega.{arith}
-use mathlib.Core.Path.{refl, sym, ◌∙◌}
-use Prim.Native.Nat.{◌-◌}
+use Rattle.std.proofs.Common.{arith, ◌≡◌, ◌+◌, ◌-◌, ◌≤◌, sym, ◌∙◌}
+use Rattle.text.proofs.Writing.{part_none, part_end}
 use Rattle.text.proofs.Trimming.{trim_end-blank, trim_end-other, trim_end-end}
 use Rattle.text.proofs.trim.trim_end.Goals as goal
 
-pub loop-i-init : goal.loop-i-init
-loop-i-init c = (search rules, search rules, refl)
-
 pub loop-i-preserved : goal.loop-i-preserved
-loop-i-preserved c = (search rules, search rules, c.loop-i.invariant.2 ∙ trim_end-blank _ _ c.args.a.0 (c.loop-i.i - 1) c.loop-i.i (omega arith) (omega arith) (omega arith) (omega arith) (sym c.is_blank.ensures ∙ c.if-is_blank.true))
+loop-i-preserved c = c.loop-i.invariant ∙ trim_end-blank _ _ c.args.a.0 (c.loop-i.i - 1) c.loop-i.i (omega arith) (omega arith) (omega arith) (omega arith) (sym c.is_blank.ensures ∙ c.if-not-is_blank.false)
 
-pub returns-else-is_blank : goal.returns-else-is_blank
-returns-else-is_blank c = (search rules, (search rules, sym (c.loop-i.invariant.2 ∙ trim_end-other _ _ c.args.a.0 (c.loop-i.i - 1) c.loop-i.i (omega arith) (omega arith) (omega arith) (omega arith) (sym c.is_blank.ensures ∙ c.if-is_blank.false))))
+pub returns-then-not-is_blank : goal.returns-then-not-is_blank
+returns-then-not-is_blank c =
+    let e : c.loop-i.i - 1 + 1 ≡ c.loop-i.i = omega arith in
+    let t = sym (c.loop-i.invariant ∙ trim_end-other _ _ c.args.a.0 (c.loop-i.i - 1) c.loop-i.i (omega arith) (omega arith) (omega arith) (omega arith) (sym c.is_blank.ensures ∙ c.if-not-is_blank.true)) in
+    (omega arith, (omega arith, rw e t))
 
 pub returns : goal.returns
-returns c = (search rules, (search rules, sym (c.loop-i.invariant.2 ∙ trim_end-end _ c.args.a.0 c.loop-i.i (omega arith))))
+returns c = let l = c.loop-i in
+    let h : l.i ≤ c.args.a.0 = omega arith in
+    (omega arith, (omega arith, part_none c.args.a.0 _ ∙ sym (l.invariant ∙ trim_end-end _ c.args.a.0 l.i h ∙ part_end c.args.a.0 l.i _ h)))
