@@ -1,15 +1,23 @@
 -- Laws of bytes as binary digits, the first the lowest. Assumes nothing.
 use mathlib.Core.Path.{◌≡◌, refl, sym, ap, ◌∙◌}
-use mathlib.Core.Bool.{Bool, true, false, cond}
-use mathlib.Core.List.{List, [], ◌∷◌}
+use mathlib.Core.Bool.{Bool, true, false, cond, not}
+use lib.Dec.{eqb, ltb}
+use borrow.Author.Tests.{ne_eqb, lt-ltb, le-ltb}
+use Rattle.text.proofs.Bytes.{ltb-suc}
+use mathlib.Core.List.{List, [], ◌∷◌, map}
+use lib.Lanes.{mask_l}
 use Prim.Native.Nat.{ℕ, zero, suc, ◌+◌, ◌-◌, ◌*◌, ◌/◌, ◌%◌, ◌^◌, ◌≤◌, ◌<◌}
 use native.Mathlib.Nat.{not-suc-le-zero, le_of_suc-le-suc, pow-suc, mul-zero, mul_comm, mul_assoc}
 use native.Mathlib.Omega.{arith}
 use lib.Count.{count_trailing_zeros, under}
-use lib.ListN.{length, drop, get_or}
+use lib.ListN.{length, take, drop, get_or}
 use lib.Pow.{pow_mono}
 use lib.Seq.{drop-cons}
 use Rattle.text.specs.Ascii.{to_first, binary}
+
+twice : (x : ℕ) → not (eqb (2 * x + 0) 0) ≡ not (eqb x 0)
+twice zero = refl
+twice (suc x) = rw (ne_eqb (2 * suc x + 0) 0 (λ e. omega (arith, e)), ne_eqb (suc x) 0 (λ e. omega (arith, e)))
 
 module _ (p : ℕ → Bool) where
   pub binary-small : (n : ℕ) (s : List ℕ) → binary p n s < 2 ^ n
@@ -21,6 +29,24 @@ module _ (p : ℕ → Bool) where
       by : (t : Bool) → 2 ^ suc n ≡ 2 ^ n * 2 → binary p n s < 2 ^ n → 2 * binary p n s + cond t 1 0 < 2 ^ suc n
       by true q h = omega (arith, q, h)
       by false q h = omega (arith, q, h)
+
+  -- the mask that a comparison of n bytes gives
+  pub binary-mask : (n : ℕ) (s : List ℕ) → mask_l (map p (take n s)) ≡ binary p n s
+  unfolding binary
+  binary-mask zero s = refl
+  binary-mask (suc n) [] = refl
+  binary-mask (suc n) (b ∷ s) = let h = binary-mask n s in omega (arith, h)
+
+  -- it is 0 where none passes
+  pub binary-some : (n : ℕ) (s : List ℕ) → n ≤ length s → not (eqb (binary p n s) 0) ≡ ltb (to_first p s) n
+  unfolding binary to_first
+  binary-some zero s h = sym (le-ltb (to_first p s) 0 (omega arith))
+  binary-some (suc n) [] h = absurd (not-suc-le-zero h)
+  binary-some (suc n) (b ∷ s) h = by (p b) (binary-some n s (le_of_suc-le-suc h))
+    where
+      by : (t : Bool) → not (eqb (binary p n s) 0) ≡ ltb (to_first p s) n → not (eqb (2 * binary p n s + cond t 1 0) 0) ≡ ltb (cond t 0 (suc (to_first p s))) (suc n)
+      by true k = rw (ne_eqb (2 * binary p n s + 1) 0 (λ e. omega (arith, e)), lt-ltb 0 (suc n) (omega arith))
+      by false k = rw (ltb-suc (to_first p s) n) (twice (binary p n s) ∙ k)
 
   binary-none : (n : ℕ) → binary p n [] ≡ 0
   unfolding binary

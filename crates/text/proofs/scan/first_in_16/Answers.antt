@@ -10,7 +10,7 @@ use Rattle.text.proofs.Digits.{binary-zeros}
 use Rattle.text.proofs.scan.first_in_16.Goals as goal
 
 pub overflow_cast-result : goal.overflow_cast-result
-overflow_cast-result c = let t : count_trailing_zeros 32 c.digits_of_16.result ≤ 32 = trailing_le 32 c.digits_of_16.result in
+overflow_cast-result c = let t : count_trailing_zeros 64 c.equal_in_16.result ≤ 64 = trailing_le 64 c.equal_in_16.result in
     search (rules, t)
 
 pub returns : goal.returns
@@ -18,4 +18,4 @@ returns c = let a = c.args in
     let p = c.requires in
     let s : List ℕ = a.s.now in
     let d = length-drop a.i s in
-    ap (count_trailing_zeros 32) c.digits_of_16.ensures ∙ binary-zeros (λ x. eqb x a.b) 32 16 (drop a.i s) (omega arith) (omega (arith, d, p.0)) p.1
+    ap (count_trailing_zeros 64) c.equal_in_16.ensures ∙ binary-zeros (λ x. eqb x a.b) 64 16 (drop a.i s) (omega arith) (omega (arith, d, p.0)) p.1

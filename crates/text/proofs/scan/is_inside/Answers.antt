@@ -1,12 +1,9 @@
-use mathlib.Core.Path.{sym}
+use Rattle.std.proofs.Common.{arith, rules}
+use Rattle.std.proofs.lemmas.Grind.{common_steps}
+use Rattle.std.proofs.lemmas.Bool.Decides.{nat_tests}
 use Rattle.text.specs.Ascii.{inside}
-use Rattle.text.proofs.Decide.{decide}
 use Rattle.text.proofs.scan.is_inside.Goals as goal
-
-pub returns-then-b-lo : goal.returns-then-b-lo
-unfolding inside
-returns-then-b-lo c = sym (search decide depth 12)
 
 pub returns : goal.returns
 unfolding inside
-returns c = sym (search decide depth 12)
+returns c = grind (arith, common_steps, nat_tests, c.new.ensures.start, c.new.ensures.end, c.new.ensures.exhausted)

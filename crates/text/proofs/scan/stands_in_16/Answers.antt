@@ -1,19 +1,9 @@
-use borrow.Author.Rules.{rules}
-use native.Mathlib.Omega.{arith}
-use mathlib.Core.Path.{◌≡◌, ap, ◌∙◌}
-use lib.Dec.{ltb}
-use Rattle.text.proofs.Bytes.{stands-none, stands-turn}
+use Rattle.std.proofs.Common.{arith, rules, ◌≡◌, ◌∙◌, ℕ, List, drop, length-drop, ap}
+use mathlib.Core.Bool.{not}
+use lib.Dec.{eqb}
+use Rattle.text.proofs.Digits.{binary-some}
 use Rattle.text.proofs.scan.stands_in_16.Goals as goal
 
-pub loop-k-init : goal.loop-k-init
-loop-k-init c = (search rules, stands-none _ c.args.s.now c.args.i)
-
-pub loop-k-preserved : goal.loop-k-preserved
-loop-k-preserved c = let l = c.loop-k in
-    let a = c.args in
-    (search rules, stands-turn _ a.s.now a.i l.k l.stands (omega arith) l.invariant.1)
-
 pub returns : goal.returns
-returns c = let l = c.loop-k in
-    let e : l.k ≡ 16 = omega arith in
-    l.invariant.1 ∙ ap (ltb _) e
+returns c = let s : List ℕ = c.args.s.now in
+    ap (λ (x : ℕ). not (eqb x 0)) c.equal_in_16.ensures ∙ binary-some (λ x. eqb x c.args.b) 16 (drop c.args.i s) (simp length-drop (omega arith))
