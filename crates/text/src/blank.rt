@@ -5,82 +5,56 @@ ghost use Rattle.text.specs.Bounds.{text_most};
 ghost use Rattle.text.specs.Blanks.{blank1, blank2, blank_e280, blank3, blank_width, blank_size};
 ghost use Rattle.text.specs.Cells.{blank_at, more_after, cells, cells_of, numbered_to};
 
+use crate::PostAt;
 use crate::cell::post_code;
-use crate::scan::{byte_at, is_inside};
-use crate::{PostAt, shorter};
+use crate::scan::byte_at;
 
+#[tactic(auto, unfolding(crate::specs::Ascii::inside, crate::specs::Blanks::blank1))]
 fn is_blank1(a: u8) -> bool
     ensures { result ≡ blank1 a }
 {
-    if is_inside(0x09, 0x0d, a) {
-        return true;
-    }
-    a == 0x20
+    matches!(a, 0x09..=0x0d | 0x20)
 }
 
+#[tactic(auto, unfolding(crate::specs::Blanks::blank2))]
 fn is_blank2(a: u8, b: u8) -> bool
     ensures { result ≡ blank2 a b }
 {
-    if a == 0xc2 {
-        if b == 0x85 {
-            return true;
-        }
-        return b == 0xa0;
-    }
-    false
+    a == 0xc2 && matches!(b, 0x85 | 0xa0)
 }
 
+#[tactic(auto, unfolding(crate::specs::Ascii::inside, crate::specs::Blanks::blank_e280))]
 fn is_blank_e280(c: u8) -> bool
     ensures { result ≡ blank_e280 c }
 {
-    if is_inside(0x80, 0x8a, c) {
-        return true;
-    }
-    if is_inside(0xa8, 0xa9, c) {
-        return true;
-    }
-    c == 0xaf
+    matches!(c, 0x80..=0x8a | 0xa8..=0xa9 | 0xaf)
 }
 
+#[tactic(auto, unfolding(crate::specs::Blanks::blank3))]
 fn is_blank3(a: u8, b: u8, c: u8) -> bool
     ensures { result ≡ blank3 a b c }
 {
-    if a == 0xe1 {
-        if b == 0x9a {
-            return c == 0x80;
-        }
-        return false;
+    match (a, b) {
+        (0xe2, 0x80) => is_blank_e280(c),
+        (0xe2, 0x81) => c == 0x9f,
+        (0xe1, 0x9a) | (0xe3, 0x80) => c == 0x80,
+        _ => false,
     }
-    if a == 0xe2 {
-        if b == 0x80 {
-            return is_blank_e280(c);
-        }
-        if b == 0x81 {
-            return c == 0x9f;
-        }
-        return false;
-    }
-    if a == 0xe3 {
-        if b == 0x80 {
-            return c == 0x80;
-        }
-    }
-    false
 }
 
+#[tactic(auto, unfolding(crate::specs::Blanks::blank_width))]
 fn blank_width(a: u8, b: u8, c: u8) -> usize
     ensures { result ≡ blank_width a b c }
 {
     if is_blank1(a) {
-        return 1;
+        1
+    } else if is_blank2(a, b) {
+        2
+    } else if is_blank3(a, b, c) {
+        3
+    } else {
+        0
     }
-    if is_blank2(a, b) {
-        return 2;
-    }
-    if is_blank3(a, b, c) {
-        return 3;
-    }
-    0
 }
 
 // How many bytes the blank character at i has, 0 where none is there.
@@ -95,16 +69,7 @@ fn blank_size(s: &[u8], i: usize) -> usize
 fn ascii_blank(b: u8) -> u8
     ensures { result ≡ cond (blank1 b) 1 0 }
 {
-    if is_blank1(b) {
-        return 1;
-    }
-    0
-}
-
-fn wide(b: u8) -> u32
-    ensures { result ≡ b }
-{
-    b as u32
+    u8::from(is_blank1(b))
 }
 
 // The number of a byte's cell, as far as its character decides it: 1 where it is blank, else 0; and how many bytes are left of a blank
@@ -131,17 +96,14 @@ pub fn place_at(s: &[u8], at: PostAt, more: usize) -> Place
     let b = s[i];
     if b < 0x80 {
         return Place {
-            blank: wide(ascii_blank(b)),
+            blank: u32::from(ascii_blank(b)),
             more: 0,
         };
     }
     let n = blank_size(s, i);
-    if n == 0 {
-        return Place { blank: 0, more: 0 };
-    }
     Place {
-        blank: 1,
-        more: n - 1,
+        blank: u32::from(0 < n),
+        more: n.saturating_sub(1),
     }
 }
 
@@ -151,11 +113,9 @@ fn has_lead_16(s: &[u8], i: usize) -> bool
     ensures { result ≡ ltb (to_first (λ x. eqb x 0xC2 || (leb 0xE1 x && leb x 0xE3)) (drop i s.now)) 16 }
 {
     let mut has = false;
-    let mut k: usize = 0;
-    while k < 16 {
+    for k in 0..16 {
         let b = s[i + k];
         has = has | ((b == 0xc2) | ((0xe1 <= b) & (b <= 0xe3)));
-        k += 1;
     }
     has
 }
@@ -165,11 +125,9 @@ fn past_plain(s: &[u8], at: usize) -> usize
     requires { at ≤ length s.now }
     ensures { (at ≤ result) × (result ≤ length s.now) × (result ≤ at + to_first (λ x. eqb x 0xC2 || (leb 0xE1 x && leb x 0xE3)) (drop at s.now)) }
 {
+    // A while: it ends at the first block that can't be passed.
     let mut i = at;
-    while 16 <= s.len() - i {
-        if has_lead_16(s, i) {
-            return i;
-        }
+    while 16 <= s.len() - i && !has_lead_16(s, i) {
         i += 16;
     }
     i
@@ -180,10 +138,8 @@ fn set_flags(s: &[u8], i: usize, n: usize, flags: &mut [u8])
     requires { (i + n ≤ length s.now) × (n ≤ length flags.old) }
     ensures { (k : ℕ) → k < n → get_or flags.new k 0 ≡ cond (blank1 (get_or s.now (i + k) 0)) 1 0 }
 {
-    let mut k: usize = 0;
-    while k < n {
+    for k in 0..n {
         flags[k] = ascii_blank(s[i + k]);
-        k += 1;
     }
 }
 
@@ -195,12 +151,8 @@ fn number_run(s: &[u8], i: usize, n: usize, nums: &mut [u32])
 {
     let mut flags: [u8; 512] = [0; 512];
     set_flags(s, i, n, &mut flags);
-    let mut j = i as u32;
-    let mut k: usize = 0;
-    while k < n {
-        nums[i + k] = post_code(j, wide(flags[k]));
-        j += 1;
-        k += 1;
+    for k in 0..n {
+        nums[i + k] = post_code((i + k) as u32, u32::from(flags[k]));
     }
 }
 
@@ -211,7 +163,7 @@ fn number_plain(s: &[u8], i: usize, e: usize, nums: &mut [u32])
 {
     let mut j = i;
     while j < e {
-        let n = shorter(512, e - j);
+        let n = (e - j).min(512);
         number_run(s, j, n, nums);
         j += n;
     }
@@ -223,19 +175,15 @@ fn number_part(s: &[u8], i: usize, nums: &mut [u32]) -> usize
     ensures { (min (i + 16) (length s.now) ≤ result) × (result ≤ length s.now) × (numbered_to i s.now nums.old ≡ numbered_to result s.now nums.new) }
 {
     let mut left: usize = 0;
-    let mut j = i;
-    while j < s.len() {
-        if left == 0 {
-            if 16 <= j - i {
-                return j;
-            }
+    for j in i..s.len() {
+        if left == 0 && 16 <= j - i {
+            return j;
         }
         let p = place_at(s, PostAt(j), left);
         nums[j] = post_code(j as u32, p.blank);
         left = p.more;
-        j += 1;
     }
-    j
+    s.len()
 }
 
 // Numbers the bytes of a text as a post's cells.

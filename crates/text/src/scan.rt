@@ -2,9 +2,8 @@
 ghost use Rattle.std.specs.Prelude.{◌≡◌, ℕ, Bool, cond, ◌+◌, ◌≤◌, ◌<◌, length, get_or, drop, eqb, ltb};
 ghost use Rattle.text.specs.Ascii.{inside, small, begins, to_first, binary, to_bracket};
 
-use std::simd::u8x16;
-
 use crate::PostAt;
+use std::simd::u8x16;
 
 // The byte at i, 0 past the end.
 pub fn byte_at(s: &[u8], i: usize) -> u8
