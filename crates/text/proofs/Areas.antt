@@ -7,7 +7,7 @@ use native.Mathlib.Omega.{arith}
 use native.Mathlib.Decide.{dec_le}
 use mathlib.Core.List.{List, [], ◌∷◌, ◌++◌, append-nil, append_assoc}
 use lib.ListN.{length, take, drop, get_or, set, length-append, length-drop, length-take}
-use lib.Seq.{take-set-lt, take-set-le, drop-set-lt, take-append-le, get_or-take, get_or-drop, length-take-le, take_all, take-take, take-nil, drop_at, drop-drop}
+use lib.Seq.{paste, take-paste, drop-paste, take-set-lt, take-set-le, drop-set-lt, take-append-le, get_or-take, get_or-drop, length-take-le, take_all, take-take, take-nil, drop_at, drop-drop}
 use Rattle.text.specs.Cells.{Cell, cell, cells, part, written}
 use Rattle.text.specs.Writes.{Holds, Appends, AppendsIn, Apart, cut, Pasted}
 use Rattle.text.proofs.Writing.{cells-set, cells-le, part-snoc, appends-none, appends-then, appends-set, appends-over, appends-run, cells-short, cells-short₂}
@@ -88,32 +88,28 @@ cells-append [] (y ∷ ys) xs' ys' e = absurd (omega (arith, e))
 cells-append (x ∷ xs) [] xs' ys' e = absurd (omega (arith, e))
 cells-append (x ∷ xs) (y ∷ ys) xs' ys' e = ap (λ (l : List Cell). cell x y ∷ l) (cells-append xs ys xs' ys' (omega (arith, e)))
 
-before-run : (xs xs' t : List ℕ) (at : ℕ) → length (take at xs) ≡ at → take (at + length t) xs' ≡ take at xs ++ t → take at xs' ≡ take at xs
-before-run xs xs' t at n e =
-    sym (take-take at (at + length t) xs' (omega arith)) ∙ ap (take at) e ∙ take-append-le at (take at xs) t (omega (arith, n)) ∙ take-take at at xs (omega arith)
+before-run : (xs xs' t : List ℕ) (at n : ℕ) → length (take at xs) ≡ at → take (at + n) xs' ≡ take at xs ++ t → take at xs' ≡ take at xs
+before-run xs xs' t at n k e =
+    sym (take-take at (at + n) xs' (omega arith)) ∙ ap (take at) e ∙ take-append-le at (take at xs) t (omega (arith, k)) ∙ take-take at at xs (omega arith)
 
 behind_more : (xs xs' : List ℕ) (k end : ℕ) → k ≤ end → drop k xs' ≡ drop k xs → drop end xs' ≡ drop end xs
 behind_more xs xs' k end h e =
     let y : k + (end - k) ≡ end = omega arith in
     ap (λ (j : ℕ). drop j xs') (sym y) ∙ sym (drop-drop (end - k) k xs') ∙ ap (drop (end - k)) e ∙ drop-drop (end - k) k xs ∙ ap (λ (j : ℕ). drop j xs) y
 
-module _ {bs ns bs' ns' : List ℕ} {end at : ℕ} (src from : List ℕ) (a e : ℕ) (h : a ≤ e) (hs : e ≤ length src) (hf : e ≤ length from) where
-  pub appends_in-pasted : at + (e - a) + 15 ≤ end → end ≤ length bs → end ≤ length ns → length bs' ≡ length bs → length ns' ≡ length ns
-      → Pasted bs at bs' (take (e - a) (drop a src)) → Pasted ns at ns' (take (e - a) (drop a from)) → AppendsIn bs ns end at bs' ns' (at + (e - a)) (part a e (cells src from))
-  appends_in-pasted room hb hn sb sn pb pn =
+module _ {bs ns bs' ns' : List ℕ} {end at : ℕ} (src from : List ℕ) (a e : ℕ) (h : a ≤ e) (hs : e ≤ length src) (hf : e ≤ length from) (room : at + (e - a) ≤ end)
+    (hb : end ≤ length bs) (hn : end ≤ length ns) (sb : length bs' ≡ length bs) (sn : length ns' ≡ length ns) where
+  -- a run whose bytes and numbers have been copied
+  pub appends_in-run : take (at + (e - a)) bs' ≡ take at bs ++ take (e - a) (drop a src) → take (at + (e - a)) ns' ≡ take at ns ++ take (e - a) (drop a from)
+      → drop end bs' ≡ drop end bs → drop end ns' ≡ drop end ns → AppendsIn bs ns end at bs' ns' (at + (e - a)) (part a e (cells src from))
+  appends_in-run xb xn db dn =
       let n : ℕ = e - a in
       let tb : List ℕ = take n (drop a src) in
       let tn : List ℕ = take n (drop a from) in
       let t : List Cell = part a e (cells src from) in
-      let ds = length-drop a src in
-      let df = length-drop a from in
-      let lb : length tb ≡ n = length-take-le n (drop a src) (omega (arith, ds)) in
-      let ln : length tn ≡ n = length-take-le n (drop a from) (omega (arith, df)) in
       let z : length t ≡ n = part-size src from a e h hs hf in
       let ab : length (take at bs) ≡ at = length-take-le at bs (omega arith) in
       let an : length (take at ns) ≡ at = length-take-le at ns (omega arith) in
-      let xb : take (at + n) bs' ≡ take at bs ++ tb = ap (λ (j : ℕ). take (at + j) bs') (sym lb) ∙ pb.text in
-      let xn : take (at + n) ns' ≡ take at ns ++ tn = ap (λ (j : ℕ). take (at + j) ns') (sym ln) ∙ pn.text in
       let l = area-length bs ns end hb hn in
       let l' = area-length bs' ns' end (omega (arith, sb)) (omega (arith, sn)) in
       let x : take (at + n) (take end (cells bs' ns')) ≡ take at (take end (cells bs ns)) ++ t =
@@ -123,13 +119,28 @@ module _ {bs ns bs' ns' : List ℕ} {end at : ℕ} (src from : List ℕ) (a e : 
       ∙ ap (λ (y : List Cell). take at (take end (cells bs ns)) ++ y) (cells-part src from a e h hs hf) in
       let r : Appends (take end (cells bs ns)) at (take end (cells bs' ns')) (at + length t) t =
       appends-run t (l' ∙ sym l) (omega (arith, z, l)) (ap (λ (j : ℕ). take (at + j) (take end (cells bs' ns'))) z ∙ x) in
-      record {
-        appends = rw z at r;
-        bytes-before = before-run bs bs' tb at ab pb.text;
-        numbers-before = before-run ns ns' tn at an pn.text;
-        bytes-behind = behind_more bs bs' (at + length tb + 15) end (omega (arith, lb)) pb.behind;
-        numbers-behind = behind_more ns ns' (at + length tn + 15) end (omega (arith, ln)) pn.behind;
-      }
+      record { appends = rw z at r; bytes-before = before-run bs bs' tb at n ab xb; numbers-before = before-run ns ns' tn at n an xn; bytes-behind = db; numbers-behind = dn }
+
+  -- in blocks
+  pub appends_in-pasted : at + (e - a) + 15 ≤ end → Pasted bs at bs' (take (e - a) (drop a src)) → Pasted ns at ns' (take (e - a) (drop a from))
+      → AppendsIn bs ns end at bs' ns' (at + (e - a)) (part a e (cells src from))
+  appends_in-pasted more pb pn =
+      let ds = length-drop a src in
+      let df = length-drop a from in
+      let lb : length (take (e - a) (drop a src)) ≡ e - a = length-take-le (e - a) (drop a src) (omega (arith, ds)) in
+      let ln : length (take (e - a) (drop a from)) ≡ e - a = length-take-le (e - a) (drop a from) (omega (arith, df)) in
+      appends_in-run (ap (λ (j : ℕ). take (at + j) bs') (sym lb) ∙ pb.text) (ap (λ (j : ℕ). take (at + j) ns') (sym ln) ∙ pn.text)
+      (behind_more bs bs' (at + length (take (e - a) (drop a src)) + 15) end (omega (arith, lb)) pb.behind)
+      (behind_more ns ns' (at + length (take (e - a) (drop a from)) + 15) end (omega (arith, ln)) pn.behind)
+
+  -- by `copy_within`
+  pub appends_in-copied : bs' ≡ paste bs at (drop a src) (e - a) → ns' ≡ paste ns at (drop a from) (e - a) → AppendsIn bs ns end at bs' ns' (at + (e - a)) (part a e (cells src from))
+  appends_in-copied qb qn =
+      let ds = length-drop a src in
+      let df = length-drop a from in
+      appends_in-run (rw qb (take-paste bs at (drop a src) (e - a) (omega arith) (omega (arith, ds)))) (rw qn (take-paste ns at (drop a from) (e - a) (omega arith) (omega (arith, df))))
+      (behind_more bs bs' (at + (e - a)) end room (rw qb (drop-paste bs at (drop a src) (e - a) (omega arith) (omega (arith, ds)))))
+      (behind_more ns ns' (at + (e - a)) end room (rw qn (drop-paste ns at (drop a from) (e - a) (omega arith) (omega (arith, df)))))
 
 -- ---- what stands outside of the area
 

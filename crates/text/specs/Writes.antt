@@ -35,7 +35,7 @@ Apart a e at end = at < e → end ≤ a
 abbrev pub cut : (a e : ℕ) → List ℕ → List ℕ
 cut a e s = take (e - a) (drop a s)
 
-pub record Pasted (xs : List ℕ) (at : ℕ) (xs' t : List ℕ) : Type 0 where
+pub record Pasted {A : Type 0} (xs : List A) (at : ℕ) (xs' t : List A) : Type 0 where
   pub text : take (at + length t) xs' ≡ take at xs ++ t
   pub behind : drop (at + length t + 15) xs' ≡ drop (at + length t + 15) xs
 

@@ -161,6 +161,7 @@ fn number_plain(s: &[u8], i: usize, e: usize, nums: &mut [u32])
     requires { ((length s.now ≤ text_most) × (length s.now ≤ length nums.old)) × ((i ≤ e) × (e ≤ length s.now) × (e ≤ i + to_first (λ x. eqb x 0xC2 || (leb 0xE1 x && leb x 0xE3)) (drop i s.now))) }
     ensures { numbered_to i s.now nums.old ≡ numbered_to e s.now nums.new }
 {
+    // A while: the last step is shorter.
     let mut j = i;
     while j < e {
         let n = (e - j).min(512);
@@ -191,6 +192,7 @@ pub fn number(s: &[u8], nums: &mut [u32])
     requires { (length s.now ≤ text_most) × (length s.now ≤ length nums.old) }
     ensures { cells s.now nums.new ≡ cells_of s.now }
 {
+    // A while: the steps differ.
     let mut i: usize = 0;
     while i < s.len() {
         let e = past_plain(s, i);

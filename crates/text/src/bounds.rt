@@ -10,7 +10,7 @@ pub const OUT_MOST: usize = 16777216;
 // How many quotes, and how many lists, may be open.
 pub const DEEP_MOST: usize = 64;
 
-// The place past every slice's end: what was written did not fit.
+// The place past every slice's end: what was written did not fit. No Option: a writer goes on from there, so a chain of them needs no test at each step.
 pub const FULL: usize = 0xffff_ffff_ffff_ffff;
 
 // How many work bytes are asked for.

@@ -1,7 +1,5 @@
 use mathlib.Core.Path.{◌≡◌}
-use Prim.Native.Nat.{◌-◌, ◌≤◌}
-use lib.ListN.{length}
-use lib.ListN.{take, drop}
+use lib.ListN.{length, take, drop}
 use Rattle.text.proofs.Numbering.{rest}
 use Rattle.text.proofs.Areas.{WritingIn}
 use Rattle.text.specs.Cells.{written}
@@ -9,7 +7,5 @@ use Rattle.text.specs.Writes.{cut}
 use Rattle.text.proofs.area.put_within.Given as goal
 
 abbrev pub invariant-loop-i : goal.invariant-loop-i
-invariant-loop-i l = (l.initial.i ≤ l.i) × (length l.buf ≡ length l.initial.buf) × (length l.nums ≡ length l.initial.nums) × WritingIn l.initial.buf l.initial.nums l.end l.initial.to.0 l.buf l.nums l.to.0 (rest l.more (drop l.i (take l.e l.initial.buf))) (written (cut l.a l.e l.initial.buf))
-
-abbrev pub decreases-loop-i : goal.decreases-loop-i
-decreases-loop-i l = l.e - l.i
+invariant-loop-i l = (length l.buf ≡ length l.fn.buf) × (length l.nums ≡ length l.fn.nums)
+    × WritingIn l.fn.buf l.fn.nums l.end l.fn.at.0 l.buf l.nums l.to.0 (rest l.more (drop l.i (take l.e l.fn.buf))) (written (cut l.fn.a l.e l.fn.buf))

@@ -1,5 +1,0 @@
-use Rattle.text.proofs.Blocks.{block}
-use Rattle.text.proofs.block.read8.Goals as goal
-
-pub returns : goal.returns
-returns c = block c.args.src.now c.args.i c.requires
