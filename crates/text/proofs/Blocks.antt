@@ -1,12 +1,11 @@
 -- Laws of copying in blocks of 16. Assumes nothing.
 use mathlib.Core.Path.{◌≡◌, refl, sym, ap, ◌∙◌}
-use Prim.Native.Nat.{ℕ, zero, suc, ◌+◌, ◌-◌, ◌≤◌, ◌<◌}
-use native.Mathlib.Nat.{add-zero, add-suc}
+use Prim.Native.Nat.{ℕ, ◌+◌, ◌-◌, ◌≤◌, ◌<◌}
 use native.Mathlib.Omega.{arith}
 use native.Mathlib.Decide.{dec_le}
-use mathlib.Core.List.{List, [], ◌∷◌, ◌++◌, append_assoc, append-nil}
-use lib.ListN.{length, take, drop, get_or, length-drop}
-use lib.Seq.{drop-cons, drop-drop, take-take, take-add, take-append-le, take-append-add, length-take-le, drop_at, paste, length-paste, take-paste, drop-paste, take_all}
+use mathlib.Core.List.{List, ◌++◌, append_assoc, append-nil}
+use lib.ListN.{length, take, drop, length-drop}
+use lib.Seq.{drop-drop, take-take, take-add, take-append-le, take-append-add, length-take-le, drop_at, paste, length-paste, take-paste, drop-paste, take_all}
 use Rattle.text.specs.Writes.{Pasted, Apart}
 
 -- ---- a run

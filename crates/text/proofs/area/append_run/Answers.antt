@@ -1,4 +1,4 @@
-use Rattle.std.proofs.Common.{arith, rules, ◌≡◌, ◌≤◌, ◌+◌, ◌-◌}
+use Rattle.std.proofs.Common.{arith, rules, ◌≡◌, ◌+◌, ◌-◌}
 use Rattle.text.proofs.Writing.{part_end}
 use Rattle.text.proofs.Areas.{appends_in-none, appends_in-pasted, appends_in-copied, part-over}
 use Rattle.text.proofs.area.append_run.Goals as goal

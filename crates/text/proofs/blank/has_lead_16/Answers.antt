@@ -1,5 +1,5 @@
 use native.Mathlib.Omega.{arith}
-use Rattle.text.proofs.Bytes.{stands-none, stands-turn}
+use Rattle.text.proofs.Bytes.{stands-turn}
 use Rattle.text.proofs.Characters.{lead}
 use Rattle.text.proofs.blank.has_lead_16.Goals as goal
 

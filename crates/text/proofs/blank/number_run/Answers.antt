@@ -1,6 +1,6 @@
-use Rattle.std.proofs.Common.{arith, ◌≡◌, ◌+◌, ◌*◌, ℕ, List, refl, sym, ap, ◌∙◌}
+use Rattle.std.proofs.Common.{arith, ◌≡◌, ◌+◌, ◌*◌, ℕ, List, refl, ap, ◌∙◌}
 use lib.ListN.{set, length-set}
-use Rattle.text.proofs.Numbering.{numbered, plain-small, plain_turn}
+use Rattle.text.proofs.Numbering.{numbered, plain_turn}
 use Rattle.text.proofs.Characters.{lead}
 use Rattle.text.proofs.Bytes.{first-plain-at}
 use Rattle.text.proofs.blank.number_run.Goals as goal

@@ -1,4 +1,4 @@
-use Rattle.std.proofs.Common.{arith, ◌≡◌, ◌+◌, ◌-◌, ◌*◌, ℕ, List, length, take, drop, ◌<◌, refl, sym, ap, length-drop, ◌∙◌}
+use Rattle.std.proofs.Common.{arith, ◌≡◌, ◌+◌, ◌-◌, ◌*◌, ℕ, length, take, drop, ◌<◌, refl, sym, ap, length-drop, ◌∙◌}
 use Rattle.std.proofs.lemmas.Slice.{put_mid-paste}
 use Rattle.std.proofs.lemmas.List.{take_all, length-take-le}
 use Rattle.text.proofs.Blocks.{copying-on, copying-end, copying-apart}

@@ -1,4 +1,4 @@
-use Rattle.std.proofs.Common.{arith, ◌≡◌, ◌-◌, sym, ◌∙◌, List, ℕ, length, take, drop}
+use Rattle.std.proofs.Common.{arith, ◌-◌, sym, ◌∙◌, List, ℕ, length, take, drop}
 use Rattle.text.proofs.Bytes.{begins-end, begins-short, begins-other, begins-more}
 use Rattle.text.proofs.scan.begins_at.Goals as goal
 use Rattle.text.proofs.scan.begins_at.Goals.{then-rest-k-via-then-rest-k, then-rest-k-via-else-rest-k+then-small_of-word}

@@ -1,5 +1,4 @@
 use Rattle.std.proofs.Common.{arith, ◌∙◌, ℕ, List, take, drop}
-use Rattle.std.proofs.lemmas.List.{length-take-le}
 use Rattle.std.proofs.lemmas.Simd.{length-chunk, bitmask_splat}
 use lib.Dec.{eqb}
 use mir.Syntax.{w8}

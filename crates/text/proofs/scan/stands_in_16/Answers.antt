@@ -1,4 +1,4 @@
-use Rattle.std.proofs.Common.{arith, rules, ◌≡◌, ◌∙◌, ℕ, List, drop, length-drop, ap}
+use Rattle.std.proofs.Common.{arith, ◌∙◌, ℕ, List, drop, length-drop, ap}
 use mathlib.Core.Bool.{not}
 use lib.Dec.{eqb}
 use Rattle.text.proofs.Digits.{binary-some}

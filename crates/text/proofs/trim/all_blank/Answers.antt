@@ -1,4 +1,4 @@
-use Rattle.std.proofs.Common.{arith, rules, ◌≡◌, true, false, refl}
+use Rattle.std.proofs.Common.{arith, rules, ◌≡◌, true, false}
 use Rattle.std.proofs.lemmas.Iterator.{cases_from_all, YieldsList-from_slice}
 use Rattle.text.specs.Cells.{is_blank}
 use Rattle.text.proofs.Trimming.{all-blank-part}

@@ -1,7 +1,7 @@
 use mathlib.Core.Path.{sym, ◌∙◌}
 use Rattle.text.specs.Lines.{is_feed}
 use Rattle.text.proofs.Decide.{decide}
-use borrow.Author.Tests.{eq-eqb, ne_eqb}
+use borrow.Author.Tests.{eq-eqb}
 use Rattle.text.proofs.trim.is_feed.Goals as goal
 
 pub returns-then-b-eq10 : goal.returns-then-b-eq10

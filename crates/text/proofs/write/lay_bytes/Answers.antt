@@ -1,4 +1,4 @@
-use Rattle.std.proofs.Common.{arith, rules, ◌≡◌, ◌-◌, ◌++◌, List, ℕ, length, take, drop, length-append, length-drop, ap, ◌∙◌}
+use Rattle.std.proofs.Common.{arith, ◌≡◌, ◌++◌, length, take, drop, length-append, length-drop, ap, ◌∙◌}
 use Rattle.std.proofs.lemmas.List.{take_at, length-take-le}
 use Rattle.text.proofs.Clearing.{laid-filled}
 use Rattle.text.proofs.write.lay_bytes.Goals as goal

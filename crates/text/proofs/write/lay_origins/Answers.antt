@@ -1,5 +1,4 @@
-use Rattle.std.proofs.Common.{arith, rules, ◌≡◌, refl}
-use lib.ListN.{length-set}
+use Rattle.std.proofs.Common.{arith, ◌≡◌}
 use Rattle.text.proofs.Clearing.{laid-filled, length-mapped}
 use Rattle.text.specs.Cells.{origin_of}
 use Rattle.text.proofs.write.lay_origins.Goals as goal
