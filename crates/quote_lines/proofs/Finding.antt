@@ -1,7 +1,7 @@
 -- Laws of the search for a quote's tag: ts are the tags of the text, a is the quote's attribution. Assumes nothing.
 use mathlib.Core.Path.{◌≡◌, refl, sym, ap, subst, ◌∙◌}
 use Prim.Native.Nat.{ℕ, zero, suc, ◌+◌, ◌-◌, ◌*◌, ◌≤◌, ◌<◌, min}
-use native.Mathlib.Nat.{add-zero, min-eq_left, min-le_right}
+use native.Mathlib.Nat.{add-zero, min-le_right}
 use native.Mathlib.Decide.{dec_le}
 use native.Mathlib.Omega.{arith}
 use native.Mathlib.Numerals.{add-one}
@@ -10,8 +10,6 @@ use mathlib.Core.List.{List, [], ◌∷◌}
 use lib.ListN.{length, take, drop, get_or, length-drop, drop_of_length-le}
 use lib.Seq.{drop-cons, get_or-take, get_or-drop, length-take-le}
 use lib.Dec.{eqb}
-use mir.Syntax.{w32}
-use mir.Val.{Fits}
 use borrow.Author.Tests.{lt-ltb, le-ltb, eq-eqb, ne_eqb}
 use Rattle.text.specs.Ascii.{to_first}
 use Rattle.text.proofs.Bytes.{first-within, first-plain-at}
@@ -99,21 +97,28 @@ line-there s ns t count next w =
 
 -- ---- by weight
 
-module _ {s ns : List ℕ} {t count : ℕ} (w : Table s ns t count) (next : ℕ) (a : List ℕ) {weighs least : ℕ} (f : weighs ≡ weight (bare a)) (e : least ≡ min weighs 4294967295)
-    (most : (k : ℕ) → Fits w32 (get_or ns k 0)) where
-  -- a tag of another weight is another; no tag has the weight of a text that is heavier than any number
-  weighs-other : (j : ℕ) → j < count → eqb (get_or ns (t + 3 * count + j) 0) least ≡ false → false ≡ same (bare (get_or (tags 1 0 s) j no_tag).attribution) (bare a)
-  weighs-other j lt n = rw (← (w.each j lt).words_are) (other-weight (bare (words_at s ns (t + 3 * j))) (bare a) other)
-    where
-      other : weight (bare (words_at s ns (t + 3 * j))) ≡ weight (bare a) → ⊥
-      other q =
-          let z : get_or ns (t + 3 * count + j) 0 ≡ weighs = w.weighed j lt ∙ q ∙ sym f in
-          let m : min weighs 4294967295 ≡ weighs = min-eq_left (let k = most (t + 3 * count + j) in omega (arith, z, k)) in
-          true≢false (sym (eq-eqb (get_or ns (t + 3 * count + j) 0) least (z ∙ sym m ∙ sym e)) ∙ n)
+-- a number that none of them is
+none-such : (n : ℕ) (x : List ℕ) → ((k : ℕ) → get_or x k 0 ≡ n → ⊥) → to_first (λ y. eqb y n) x ≡ length x
+unfolding to_first
+none-such n [] f = refl
+none-such n (b ∷ x) f = rw (ne_eqb b n (f 0), none-such n x (λ k. f (suc k)))
+
+pub first-missing : (x : List ℕ) (at : ℕ) {n : ℕ} → at ≤ length x → ((k : ℕ) → get_or x k 0 < n) → length x ≡ at + to_first (λ y. eqb y n) (drop at x)
+first-missing x at {n} h f =
+    let z = none-such n (drop at x) (λ k q. let m = f (at + k) in let g = get_or-drop at x k 0 in omega (arith, m, g, q)) in
+    let d = length-drop at x in
+    omega (arith, z, d)
+
+module _ {s ns : List ℕ} {t count : ℕ} (w : Table s ns t count) (next : ℕ) (a : List ℕ) {weighs : ℕ} (f : weighs ≡ weight (bare a)) where
+  -- a tag of another weight is another
+  weighs-other : (j : ℕ) → j < count → eqb (get_or ns (t + 3 * count + j) 0) weighs ≡ false → false ≡ same (bare (get_or (tags 1 0 s) j no_tag).attribution) (bare a)
+  weighs-other j lt n =
+      rw (← (w.each j lt).words_are)
+      (other-weight (bare (words_at s ns (t + 3 * j))) (bare a) (λ q. true≢false (sym (eq-eqb (get_or ns (t + 3 * count + j) 0) weighs (w.weighed j lt ∙ q ∙ sym f)) ∙ n)))
 
   -- the search goes on at the next tag of the weight
   module _ {i r : ℕ} (v : Finding (tags 1 0 s) next a i) (le : i ≤ count)
-      (q : r ≡ i + to_first (λ x. eqb x least) (drop i (take (t + 3 * count + count - (t + 3 * count)) (drop (t + 3 * count) ns)))) where
+      (q : r ≡ i + to_first (λ x. eqb x weighs) (drop i (take (t + 3 * count + count - (t + 3 * count)) (drop (t + 3 * count) ns)))) where
     abbrev weights : List ℕ
     weights = take (t + 3 * count + count - (t + 3 * count)) (drop (t + 3 * count) ns)
 
@@ -127,11 +132,11 @@ module _ {s ns : List ℕ} {t count : ℕ} (w : Table s ns t count) (next : ℕ)
     weight-there j lt = get_or-take (t + 3 * count + count - (t + 3 * count)) (drop (t + 3 * count) ns) j 0 (omega (arith, count-is)) ∙ get_or-drop (t + 3 * count) ns j 0
 
     weight-within : r ≤ count
-    weight-within = let n = first-within (λ x. eqb x least) (drop i weights) in let m = length-drop i weights in omega (arith, n, m, many, q)
+    weight-within = let n = first-within (λ x. eqb x weighs) (drop i weights) in let m = length-drop i weights in omega (arith, n, m, many, q)
 
     pub finding-weight : Finding (tags 1 0 s) next a r
     finding-weight =
         subst (λ (k : ℕ). Finding (tags 1 0 s) next a k) (sym q)
-        (finding-run (tags 1 0 s) next a (to_first (λ x. eqb x least) (drop i weights)) i v (omega (arith, weight-within, q, w.all)) (λ j h g.
+        (finding-run (tags 1 0 s) next a (to_first (λ x. eqb x weighs) (drop i weights)) i v (omega (arith, weight-within, q, w.all)) (λ j h g.
         let lt : j < count = omega (arith, g, weight-within, q) in
-        weighs-other j lt (ap (λ (x : ℕ). eqb x least) (sym (weight-there j lt)) ∙ first-plain-at (λ x. eqb x least) weights i j h (omega (arith, lt, many)) g)))
+        weighs-other j lt (ap (λ (x : ℕ). eqb x weighs) (sym (weight-there j lt)) ∙ first-plain-at (λ x. eqb x weighs) weights i j h (omega (arith, lt, many)) g)))

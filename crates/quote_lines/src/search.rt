@@ -208,70 +208,76 @@ pub fn read_lines(text: &[u8], work: &mut [u8], numbers: &mut [u32]) -> Lines
     Lines { size, count }
 }
 
-// The first tag from `next` on with this attribution; where there is none, the number of tags or, if that is greater, `next`.
-fn find_tag(
-    s: &[u8],
-    numbers: &[u32],
-    t: usize,
-    count: usize,
-    next: usize,
-    attribution: &[u8],
-) -> usize
-    requires { Table s.now numbers.now t count × (length attribution.now ≤ out_most) }
-    ensures { result ≡ next + find attribution.now (drop next (tags 1 0 s.now)) }
-{
-    // A quote that marks left as it was has just the attribution of tag `next`.
-    if next < count && words_at(s, numbers, t + 3 * next) == attribution {
-        return next;
-    }
-    // A text that is heavier than a number can say is no tag's.
-    let weight = bare_weight(attribution).min(4294967295) as u32;
-    let w = t + 3 * count;
-    let mut i = next;
-    while i < count {
-        i = next_number(&numbers[w..w + count], i, weight);
-        if count <= i || same_bare(words_at(s, numbers, t + 3 * i), attribution) {
-            return i;
-        }
-        i += 1;
-    }
-    i
+// The quote tags of a text, as its table from place t of the numbers on has them.
+#[derive(Clone, Copy)]
+pub struct Tags<'a> {
+    pub text: &'a [u8],
+    pub numbers: &'a [u32],
+    pub t: usize,
+    pub count: usize,
+    pub ghost table: { Table text.now numbers.now t count },
 }
 
-// The line of tag `next`, at most the last; 1 if there are no tags.
-fn line_at(numbers: &[u32], t: usize, count: usize, next: usize) -> u32
-    requires { t + 3 * count ≤ length numbers.now }
-    ensures { result ≡ line_in numbers.now t count next }
-{
-    if count == 0 {
-        1
-    } else {
-        numbers[t + 3 * next.min(count - 1)]
+impl<'a> Tags<'a> {
+    // The attribution of tag i.
+    fn words(self, i: usize) -> &'a [u8]
+        requires { i < self.count }
+        ensures { (result.now ≡ words_at self.entry.text.now self.entry.numbers.now (self.entry.t + 3 * i)) × (length result.now ≤ length self.entry.text.now) }
+    {
+        words_at(self.text, self.numbers, self.t + 3 * i)
     }
-}
 
-// The line of a quote with this attribution, searched from tag `next` on.
-pub fn line_of(
-    s: &[u8],
-    numbers: &[u32],
-    t: usize,
-    count: usize,
-    next: usize,
-    attribution: &[u8],
-) -> Found
-    requires { Table s.now numbers.now t count × (length attribution.now ≤ out_most) }
-    ensures { (result.line ≡ line_at (tags 1 0 s.now) (place (tags 1 0 s.now) next attribution.now)) × (result.next ≡ next_after (tags 1 0 s.now) next attribution.now) }
-{
-    let i = find_tag(s, numbers, t, count, next, attribution);
-    if i < count {
-        Found {
-            line: numbers[t + 3 * i],
-            next: i + 1,
+    // The first tag from `next` on with this attribution; where there is none, the number of tags or, if that is greater, `next`. A while: it goes
+    // from one tag of the weight to the next.
+    fn find(self, next: usize, attribution: &[u8]) -> usize
+        requires { length attribution.now ≤ out_most }
+        ensures { result ≡ next + find attribution.now (drop next (tags 1 0 self.entry.text.now)) }
+    {
+        // A quote that marks left as it was has just the attribution of tag `next`.
+        if next < self.count && self.words(next) == attribution {
+            return next;
         }
-    } else {
-        Found {
-            line: line_at(numbers, t, count, next),
-            next,
+        let weight = bare_weight(attribution);
+        let w = self.t + 3 * self.count;
+        let weights = &self.numbers[w..w + self.count];
+        let mut i = next;
+        while i < self.count {
+            i = next_number(weights, i, weight);
+            if self.count <= i || same_bare(self.words(i), attribution) {
+                return i;
+            }
+            i += 1;
+        }
+        i
+    }
+
+    // The line of tag `next`, at most the last; 1 if there are no tags.
+    fn line(self, next: usize) -> u32
+        ensures { result ≡ line_in self.entry.numbers.now self.entry.t self.entry.count next }
+    {
+        if self.count == 0 {
+            1
+        } else {
+            self.numbers[self.t + 3 * next.min(self.count - 1)]
+        }
+    }
+
+    // The line of a quote with this attribution, searched from tag `next` on.
+    pub fn line_of(self, next: usize, attribution: &[u8]) -> Found
+        requires { length attribution.now ≤ out_most }
+        ensures { (result.line ≡ line_at (tags 1 0 self.entry.text.now) (place (tags 1 0 self.entry.text.now) next attribution.now)) × (result.next ≡ next_after (tags 1 0 self.entry.text.now) next attribution.now) }
+    {
+        let i = self.find(next, attribution);
+        if i < self.count {
+            Found {
+                line: self.numbers[self.t + 3 * i],
+                next: i + 1,
+            }
+        } else {
+            Found {
+                line: self.line(next),
+                next,
+            }
         }
     }
 }

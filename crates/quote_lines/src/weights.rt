@@ -32,21 +32,24 @@ fn none_in_16(numbers: &[u32], i: usize, n: u32) -> bool
     !stands
 }
 
-// The place of the first number n from a place on, or the end. The first is asked alone: where all are n, that is the whole search. A while: the
-// last block may not be whole.
-pub fn next_number(numbers: &[u32], at: usize, n: u32) -> usize
+// The place of the first number n from a place on, or the end, as where n is greater than any number. The first is asked alone: where all are n,
+// that is the whole search. A while: the last block may not be whole.
+pub fn next_number(numbers: &[u32], at: usize, n: usize) -> usize
     requires { at ≤ length numbers.now }
     ensures { result ≡ at + to_first (λ x. eqb x n) (drop at numbers.now) }
 {
-    if at < numbers.len() && numbers[at] == n {
+    let Ok(wanted) = u32::try_from(n) else {
+        return numbers.len();
+    };
+    if at < numbers.len() && numbers[at] == wanted {
         return at;
     }
     let mut i = at;
-    while 16 <= numbers.len() - i && none_in_16(numbers, i, n) {
+    while 16 <= numbers.len() - i && none_in_16(numbers, i, wanted) {
         i += 16;
     }
     for k in i..numbers.len() {
-        if numbers[k] == n {
+        if numbers[k] == wanted {
             return k;
         }
     }
