@@ -11,7 +11,7 @@ ghost use Rattle.quote_losses.specs.Losses.{ListsToken, FewAt, ListsLosses};
 
 use crate::deep::{open_less, open_more};
 use attribution_losses::loss::{Counts, put_losses};
-use quote_lines::search::{attribution_size, line_of};
+use quote_lines::search::{Tags, attribution_size};
 use quote_tags::tag::{Kind, next_tag, tag_at};
 use text::PostAt;
 use text::bounds::DEEP_MOST;
@@ -48,7 +48,13 @@ fn list_token(
         Kind::Opener(k) => {
             let a = from.at.0 + 7;
             let e = a + attribution_size(k);
-            let found = line_of(post, &numbers[base..], 0, count, from.next, &source[a..e]);
+            let tags = Tags {
+                text: post,
+                numbers: &numbers[base..],
+                t: 0,
+                count,
+            };
+            let found = tags.line_of(from.next, &source[a..e]);
             let counts = put_losses(
                 &source[a..e],
                 from.quote as u32,

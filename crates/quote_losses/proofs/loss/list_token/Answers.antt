@@ -11,8 +11,8 @@ overflow_add-e c = let k = tag-opener _ _ c.tag_at-tag.ensures.1 c.in-Opener.is 
     let room = opener-room c.args.source.now c.args.from.at.0 _ _ c.requires.0.0 k.0 k.1 c.attribution_size.ensures in
     omega (arith, room.0, room.1, c.requires.0.1)
 
-pub slice_bounds-line_of-end-in-Opener : goal.slice_bounds-line_of-end-in-Opener
-slice_bounds-line_of-end-in-Opener c = let k = tag-opener _ _ c.tag_at-tag.ensures.1 c.in-Opener.is in
+pub slice_bounds-line_of-end : goal.slice_bounds-line_of-end
+slice_bounds-line_of-end c = let k = tag-opener _ _ c.tag_at-tag.ensures.1 c.in-Opener.is in
     let room = opener-room c.args.source.now c.args.from.at.0 _ _ c.requires.0.0 k.0 k.1 c.attribution_size.ensures in
     omega (arith, room.0, room.1)
 
