@@ -122,26 +122,24 @@ fn end_mark(
     requires { BodyAsked w mark body work.old numbers.old spans.old }
     ensures { BodyDone w mark body work.old numbers.old spans.old work.new numbers.new spans.new result }
 {
-    let item = body.item;
-    let to = body.to;
-    let listed = body.count;
-    if w.end < to.0 {
+    if w.end < body.to.0 {
         return Drawn {
-            item,
-            to,
-            count: listed,
+            item: body.item,
+            to: body.to,
+            count: body.count,
             before: 256,
             guarded: false,
         };
     }
-    let depth = 4 - u32::count_ones(mark.mask) as usize;
-    let next = w.items_of(&work[..], &numbers[..]).next_of(item, depth);
-    let start = mark.start;
+    let depth = 4 - mark.mask.count_ones() as usize;
+    let next = w
+        .items_of(&work[..], &numbers[..])
+        .next_of(body.item, depth);
     let whole = Body {
-        start,
-        to,
+        start: mark.start,
+        to: body.to,
         span: mark.count,
-        listed,
+        listed: body.count,
     };
     let closed = finish_mark(
         work,
@@ -153,14 +151,12 @@ fn end_mark(
         mark.before,
         next.byte(),
     );
-    let braces = closed.braces;
-    let past = closed.to;
     Drawn {
-        item,
-        to: past,
-        count: listed,
-        before: last_of(braces, mark.d),
-        guarded: !braces & (mark.before == 123),
+        item: body.item,
+        to: closed.to,
+        count: body.count,
+        before: last_of(closed.braces, mark.d),
+        guarded: !closed.braces & (mark.before == 123),
     }
 }
 
@@ -222,7 +218,7 @@ pub fn write_slot(
     requires { SlotAsked w work.old numbers.old from mask count }
     ensures { SlotDone w work.old numbers.old from at.0 spans.old count work.new numbers.new spans.new result }
 {
-    let depth = 4 - u32::count_ones(mask) as usize;
+    let depth = 4 - mask.count_ones() as usize;
     let k = w.items;
     let mut i = from;
     let mut to = at;

@@ -6,12 +6,12 @@ use Rattle.mark_writing.proofs.MarkWriting.{mark-full, mark-asks, mark-written}
 use Rattle.mark_writing.proofs.Inwards.{behind-none, area_same, table-in, ready-as, next-as}
 use Rattle.mark_writing.proofs.slot.end_mark.Goals as goal
 
-pub returns-then-w-to : goal.returns-then-w-to
-returns-then-w-to c = let a = c.args in
+pub returns-then-w-body : goal.returns-then-w-body
+returns-then-w-body c = let a = c.args in
     let bh = c.requires.1.behind in
     let ins = c.requires.1.inside in
     let x = length-take-le a.w.end a.work.now (omega (arith, bh, ins)) in
-    let z = c.if-w-to.true in
+    let z = c.if-w-body.true in
     (λ b. mark-full b (omega (arith, x, z)), behind-none _ _ _)
 
 pub overflow_cast-depth : goal.overflow_cast-depth
@@ -28,7 +28,7 @@ finish_mark-closed-requires c = let a = c.args in
     let bh = c.requires.1.behind in
     let ins = c.requires.1.inside in
     let x = length-take-le a.w.end a.work.now (omega (arith, bh, ins)) in
-    let z = c.if-w-to.false in
+    let z = c.if-w-body.false in
     let h = (table-in a.w a.work.now a.numbers.now (c.requires.0.ready.slot.table, c.requires.1)).room in
     (mark-asks c.requires.0 (omega (arith, x, z)) _ c.byte.ensures.1, (omega (arith, bh, ins), omega (arith, h, bh)))
 
@@ -37,7 +37,7 @@ returns c = let a = c.args in
     let bh = c.requires.1.behind in
     let ins = c.requires.1.inside in
     let x = length-take-le a.w.end a.work.now (omega (arith, bh, ins)) in
-    let z = c.if-w-to.false in
+    let z = c.if-w-body.false in
     let h = (table-in a.w a.work.now a.numbers.now (c.requires.0.ready.slot.table, c.requires.1)).room in
     let closed = c.finish_mark-closed in (
       λ b. mark-written b (omega (arith, x, z)) _ _ _ _ _ _ _ _ _ (area_same a.w.end a.work.now _ (omega (arith, bh, ins)) closed.auto.buf) (area_same a.w.end a.numbers.now _ (omega (arith, h, bh)) closed.auto.nums) closed.auto.spans
