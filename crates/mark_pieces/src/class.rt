@@ -16,7 +16,8 @@ const CLASS: [u8; 256] = [
     0, 0, 0, 0, 0, 0, 0, 0, 0, 0, 0, 0, 0, 0, 0, 0, 0, 0, 0, 0, 0, 0, 0, 0, 0, 0, 0, 0, 0, 0, 0, 0,
 ];
 
-// 256 stands where there is no character. A table is made anew wherever its name stands: here once for the four classes.
+// 256 stands where there is no character, and not an `Option`: it is looked up like a byte, without a branch. A table is made anew wherever its name
+// stands: here once for the four classes.
 pub fn is_braced(d: usize, first: usize, last: usize, before: usize, next: usize) -> bool
     requires { (first ≤ 256) × (last ≤ 256) × (before ≤ 256) × (next ≤ 256) }
     ensures { result ≡ braced d first last before next }
