@@ -5,13 +5,13 @@ use native.Mathlib.Numerals.{add-one}
 use native.Mathlib.Omega.{arith}
 use mathlib.Core.List.{List, [], ◌∷◌, ◌++◌, append_assoc, append-nil}
 use lib.ListN.{length, take, drop, length-append, length-drop, drop_of_length-le}
-use lib.Seq.{drop-drop, length-take-le, take_at, drop_at, take_all}
+use lib.Seq.{drop-drop, length-take-le, take_at, drop_at}
 use Rattle.text.specs.Cells.{Cell, bytes}
 use Rattle.attribution_parts.specs.Attribution.{Loss, losses}
 use Rattle.attribution_losses.specs.Lists.{Puts, records_of, loss_words, Lists}
 use Rattle.attribution_losses.proofs.Listing.{puts_none, puts_then, puts-as, lists-none}
 use Rattle.quote_tags.specs.Tags.{NextBracket, openers, closers, opener_size, closer_size, attribution_of}
-use Rattle.quote_lines.specs.Lines.{Tag, tags, place, next_after, line_at, lines_from}
+use Rattle.quote_lines.specs.Lines.{Tag, place, next_after, line_at, lines_from}
 use Rattle.quote_lines.specs.Tables.{Table}
 use Rattle.quote_tags.proofs.Tagging.{behind-within}
 use Rattle.quote_tags.proofs.Plain.{PlainRun, bracket-past}
@@ -63,10 +63,6 @@ front_long xs rest base le = let n = length-append (take base xs) rest in let m 
 pub back_long : (xs : List ℕ) (base : ℕ) → length (take (length xs - base) (drop base xs)) ≡ length xs - base
 back_long xs base = let n = length-drop base xs in length-take-le (length xs - base) (drop base xs) (omega (arith, n))
 
--- the table stands behind the place
-pub back-table : (s xs : List ℕ) (base count : ℕ) → Table s (drop base xs) 0 count → Table s (take (length xs - base) (drop base xs)) 0 count
-back-table s xs base count t = let n = length-drop base xs in rw (take_all (length xs - base) (drop base xs) (omega (arith, n))) t
-
 pub same-table : (s ns ns' : List ℕ) (count : ℕ) → ns ≡ ns' → Table s ns' 0 count → Table s ns 0 count
 same-table s ns ns' count e t = rw e t
 
@@ -76,9 +72,6 @@ back_is xs ys base le =
     let n = length-drop base xs in
     drop_at (take base xs) (ys ++ drop (length xs - base) (drop base xs)) base (length-take-le base xs le)
     ∙ ap (λ (r : List ℕ). ys ++ r) (drop_of_length-le (drop base xs) {i = length xs - base} (omega (arith, n))) ∙ append-nil ys
-
-pub lists-as : {s m v rs rs₀ bs rs' bs' : List ℕ} {k to : ℕ} → m ≡ v → rs ≡ rs₀ → ListsLosses s (tags 1 0 m) rs bs rs' bs' k to → ListsLosses s (tags 1 0 v) rs₀ bs rs' bs' k to
-lists-as e f p = rw (e, f) at p
 
 -- ---- one token
 

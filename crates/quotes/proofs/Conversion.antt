@@ -1,7 +1,7 @@
 -- Laws of a whole call. Assumes nothing.
 use mathlib.Core.Path.{◌≡◌, refl, sym, ap, ◌∙◌}
-use mathlib.Core.Bool.{Bool, true, false, cond}
-use mathlib.Core.List.{List, [], ◌++◌}
+use mathlib.Core.Bool.{Bool, true, false}
+use mathlib.Core.List.{List, ◌++◌}
 use Prim.Native.Nat.{ℕ, ◌+◌, ◌-◌, ◌*◌, ◌≤◌, ◌<◌}
 use native.Mathlib.Nat.{zero-add}
 use native.Mathlib.Omega.{arith}
@@ -16,15 +16,16 @@ use Rattle.text.specs.Writes.{cleared, LaidOut}
 use Rattle.lending.specs.declared.lent.Refusal.{Refusal}
 use Rattle.lending.specs.declared.lent.Refusal.TheVariants.{NoSpace}
 use Rattle.lending.specs.declared.answer.Converted.{Converted}
-use Rattle.lending.specs.Answer.{answer_by, losses_by}
-use Rattle.text.proofs.Clearing.{laid-cleared, cleared-all}
+use Rattle.lending.specs.Answer.{answer_by}
+use Rattle.text.proofs.Clearing.{laid-cleared}
 use Rattle.attribution_parts.specs.Attribution.{caption}
 use Rattle.quote_tags.specs.Masks.{visible}
 use Rattle.quote_lines.specs.Lines.{tags, lines_of}
-use Rattle.quote_blocks.specs.Quotes.{too_deep, quotes, quotes_need}
+use Rattle.text.proofs.Copying.{bytes-cells_of}
+use Rattle.quote_blocks.specs.Quotes.{too_deep, quotes, quotes_need, TooDeep}
 use Rattle.quote_blocks.proofs.QuotesFit.{quotes-fit}
 use Rattle.quote_losses.specs.Losses.{quote_losses, loss_bytes, loss_records, ListsLosses}
-use Rattle.quotes.specs.Calls.{limited, spaced, converted, text_of, words_in, Filled, Noted, Left, Spelled, Written}
+use Rattle.quotes.specs.Calls.{limited, spaced, converted, Filled, Noted, Left, Spelled, Written}
 
 -- ---- losses
 
@@ -62,18 +63,21 @@ limited-fine false false false h = (refl, (refl, refl))
 pub within : (deep : Bool) (j b losses words : ℕ) → limited deep (ltb j losses) (ltb b words) ≡ Ok tt → (deep ≡ false) × ((losses ≤ j) × (words ≤ b))
 within deep j b losses words h = let f = limited-fine deep (ltb j losses) (ltb b words) h in (f.0, (ltb-false j losses f.1.0, ltb-false b words f.1.1))
 
-pub converted-by : (x : List Cell) (m j b b' losses words : ℕ) (deep : Bool) → b' ≡ b → deep ≡ too_deep x → losses ≡ length (quote_losses x) → words ≡ length (loss_bytes x)
-    → answer_by (limited deep (ltb j losses) (ltb b' words)) (spaced x m) ≡ converted x m j b
-unfolding converted
-converted-by x m j b b' losses words deep eb d l w = rw (eb, d, l, w)
+-- what the listing of a text's losses decides
+module _ (text : List ℕ) {rs bs rs' bs' : List ℕ} {losses words : ℕ} {deep : Bool} (w : ListsLosses text (tags 1 0 (visible text)) rs bs rs' bs' losses words × TooDeep text deep) (m j : ℕ) {b : ℕ} (lb : length bs' ≡ b) where
+  decided : {c : Result (Unit {0}) Refusal} → limited deep (ltb j losses) (ltb (length bs') words) ≡ c → answer_by c (spaced (cells_of text) m) ≡ converted (cells_of text) m j b
+  unfolding converted
+  decided e =
+      let n = listed-counts text text _ _ _ _ _ _ w.0 (cells_of text) (bytes-cells_of text) in
+      let d = w.1 (cells_of text) (bytes-cells_of text) in
+      rw (← e, d, ← n.0, ← n.1, ← lb) refl
 
--- where the counts of a text decide
-module _ (x : List Cell) (m j b : ℕ) {losses words : ℕ} {deep : Bool} (d : deep ≡ too_deep x) (l : losses ≡ length (quote_losses x)) (w : words ≡ length (loss_bytes x)) where
-  pub limits-fine : limited deep (ltb j losses) (ltb b words) ≡ Ok tt → spaced x m ≡ converted x m j b
-  limits-fine e = ap (λ (c : Result (Unit {0}) Refusal). answer_by c (spaced x m)) (sym e) ∙ converted-by x m j b b losses words deep refl d l w
+  pub own-refused : {r : Refusal} → limited deep (ltb j losses) (ltb (length bs') words) ≡ Err r → Err r ≡ converted (cells_of text) m j b
+  own-refused e = decided e
 
-  pub limits-refuse : {r : Refusal} → limited deep (ltb j losses) (ltb b words) ≡ Err r → Err r ≡ converted x m j b
-  limits-refuse e = ap (λ (c : Result (Unit {0}) Refusal). answer_by c (spaced x m)) (sym e) ∙ converted-by x m j b b losses words deep refl d l w
+  pub own-fine : limited deep (ltb j losses) (ltb (length bs') words) ≡ Ok tt
+      → (spaced (cells_of text) m ≡ converted (cells_of text) m j b) × ((too_deep (cells_of text) ≡ false) × ((losses ≤ j) × (words ≤ length bs')))
+  own-fine e = let f = within deep j (length bs') losses words e in (decided e, (w.1 (cells_of text) (bytes-cells_of text) ∙ f.0, f.1))
 
 pub spaced-full : (x : List Cell) (m : ℕ) → m < quotes_need caption x → Err NoSpace ≡ spaced x m
 unfolding spaced
