@@ -7,7 +7,7 @@ use native.Mathlib.Nat.{add-sub_cancel_left}
 use native.Mathlib.Omega.{arith}
 use lib.Dec.{eqb, ltb}
 use lib.ListN.{length, take, drop, length-append}
-use borrow.Author.Tests.{lt-ltb, le-ltb, ltb-true, ltb-false}
+use borrow.Author.Tests.{lt-ltb}
 use Rattle.text.specs.Ascii.{inside, ascii, is_empty}
 use Rattle.text.specs.Blanks.{computes as blanks_compute}
 use Rattle.text.specs.Cells.{Cell, cell, sign, written, cells_from}
@@ -201,14 +201,6 @@ spaced-written (a ∷ x) (b ∷ y) l r p q =
     rw (p, q) (append_assoc (written (a ∷ x)) (written (32 ∷ [])) (written (b ∷ y))
     ∙ ap (λ (l : List Cell). written (a ∷ x) ++ l) (ap (λ (l : List Cell). l ++ written (b ∷ y)) (space-is [] ∙ ap (λ (l : List Cell). cell 32 1 ∷ l) written_none) ∙ sym (space-is (b ∷ y)))
     ∙ sym (written-append (a ∷ x) 32 (b ∷ y) (omega arith)))
-
--- a part that is not empty
-pub ltb-length : (i j n : ℕ) → n ≡ j - i → ltb i j ≡ ltb 0 n
-ltb-length i j n e = by (ltb i j) refl
-  where
-    by : (t : Bool) → ltb i j ≡ t → t ≡ ltb 0 n
-    by true p = let h : i < j = ltb-true i j p in sym (lt-ltb 0 n (omega (arith, h, e)))
-    by false p = let h : j ≤ i = ltb-false i j p in sym (le-ltb 0 n (omega (arith, h, e)))
 
 some_is : (w : List ℕ) (n : ℕ) → length w ≡ n → ltb 0 n ≡ not (is_empty w)
 some_is [] n e = rw (← e)

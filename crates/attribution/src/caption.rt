@@ -1,6 +1,6 @@
 // The caption of an attribution: name, date and id. The attribution stands in the pair of slices that the caption is written into, with its joined
 // texts; both before or behind the writer's area.
-ghost use Rattle.std.specs.Prelude.{◌≡◌, true, not, ◌&&◌, ◌||◌, eqb, ltb, [], ◌∷◌, ◌++◌, ◌+◌, ◌-◌, ◌≤◌, length};
+ghost use Rattle.std.specs.Prelude.{◌≡◌, ℕ, true, not, ◌&&◌, eqb, List, [], ◌∷◌, ◌++◌, ◌+◌, ◌-◌, ◌≤◌, length};
 ghost use Rattle.text.specs.Ascii.{ascii};
 ghost use Rattle.text.specs.Cells.{written};
 ghost use Rattle.text.specs.Writes.{Apart, cut};
@@ -11,7 +11,7 @@ ghost use Rattle.attribution_parts.specs.Parts.{parts};
 ghost use Rattle.attribution_parts.specs.Attribution.{is_day, within, caption, date as dateOf};
 ghost use Rattle.attribution_reading.specs.Places.{bytes};
 ghost use Rattle.attribution_reading.specs.Reads.{FieldAt, IdAt};
-ghost use Rattle.attribution_losses.specs.Captions.{named, gap};
+ghost use Rattle.attribution_losses.specs.Captions.{gap};
 ghost use Rattle.attribution_losses.specs.Lists.{Told};
 ghost use Rattle.attribution.specs.Spoken.{said, date_and_id, Spoken, NameAt};
 
@@ -31,45 +31,21 @@ pub struct Words {
     pub past: WorkAt,
 }
 
-// Where a name stands.
-#[derive(Clone, Copy)]
-struct NamePlace {
-    from: WorkAt,
-    to: WorkAt,
-}
-
-// The name: where there is a name field its value, a part of the attribution; else the joined texts.
-fn name<'a>(attribution: &'a [u8], joined: &'a [u8], from: usize, size: usize) -> &'a [u8]
-    requires { from + size ≤ length attribution.now }
-    ensures { result.now ≡ named attribution.now joined.now from size }
+// Where the name stands: where there is a name field its value, a part of the attribution; else the joined texts.
+fn name_at(words: Words, name: Extent) -> Extent
+    requires { ((words.from.0 ≤ words.to.0) × (words.joined.0 ≤ words.past.0)) × (name.from + name.size ≤ words.to.0 - words.from.0) }
+    ensures { (s : List ℕ) → words.to.0 ≤ length s → words.past.0 ≤ length s → NameAt s words name.from name.size result.from (result.from + result.size) }
 {
-    if size == 0 {
-        return joined;
-    }
-    let end = from + size;
-    &attribution[from..end]
-}
-
-// Where the name stands: as long as the part that `name` hands out, which can't be held while the slice is written.
-fn name_at(work: &[u8], w: Words, from: usize, size: usize) -> NamePlace
-    requires { ((w.from.0 ≤ w.to.0) × ((w.to.0 ≤ length work.now) × ((w.joined.0 ≤ w.past.0) × (w.past.0 ≤ length work.now)))) × (from + size ≤ w.to.0 - w.from.0) }
-    ensures { NameAt work.now w from size result.from.0 result.to.0 }
-{
-    let a = w.from.0;
-    let b = w.to.0;
-    let j = w.joined.0;
-    let k = w.past.0;
-    let words = name(&work[a..b], &work[j..k], from, size);
-    let n = words.len();
-    if size == 0 {
-        return NamePlace {
-            from: WorkAt(j),
-            to: WorkAt(j + n),
-        };
-    }
-    NamePlace {
-        from: WorkAt(a + from),
-        to: WorkAt(a + from + n),
+    if name.size == 0 {
+        Extent {
+            from: words.joined.0,
+            size: words.past.0 - words.joined.0,
+        }
+    } else {
+        Extent {
+            from: words.from.0 + name.from,
+            size: name.size,
+        }
     }
 }
 
@@ -91,35 +67,38 @@ fn put_bracketed(w: &mut Writer<'_>, text: &[u8])
     w.put_sign(b')');
 }
 
-// Appends the bytes from i up to j in brackets.
-fn put_bracketed_within(w: &mut Writer<'_>, i: usize, j: usize)
-    requires { (j ≤ length w.old.bytes.now) × Apart i j w.old.at.0 w.old.end }
-    ensures { Wrote w.old w.new (written (ascii "(" ++ (cut i j w.old.bytes.now ++ ascii ")"))) }
+// Appends bytes that stand outside of the area in brackets.
+fn put_bracketed_within(w: &mut Writer<'_>, text: Extent)
+    requires { (text.from + text.size ≤ length w.old.bytes.now) × Apart text.from (text.from + text.size) w.old.at.0 w.old.end }
+    ensures { Wrote w.old w.new (written (ascii "(" ++ (cut text.from (text.from + text.size) w.old.bytes.now ++ ascii ")"))) }
 {
     w.put_sign(b'(');
-    w.put_within(i, j);
+    w.put_within(text.from, text.from + text.size);
     w.put_sign(b')');
 }
 
-// Appends the bytes from i up to j and those from k up to l in brackets, a space between them.
-fn put_both(w: &mut Writer<'_>, i: usize, j: usize, k: usize, l: usize)
-    requires { ((j ≤ length w.old.bytes.now) × Apart i j w.old.at.0 w.old.end) × ((l ≤ length w.old.bytes.now) × Apart k l w.old.at.0 w.old.end) }
-    ensures { Wrote w.old w.new (written (ascii "(" ++ ((cut i j w.old.bytes.now ++ (32 ∷ cut k l w.old.bytes.now)) ++ ascii ")"))) }
+// Appends two such texts in brackets, a space between them.
+fn put_both(w: &mut Writer<'_>, one: Extent, two: Extent)
+    requires { ((one.from + one.size ≤ length w.old.bytes.now) × Apart one.from (one.from + one.size) w.old.at.0 w.old.end) × ((two.from + two.size ≤ length w.old.bytes.now) × Apart two.from (two.from + two.size) w.old.at.0 w.old.end) }
+    ensures { Wrote w.old w.new (written (ascii "(" ++ ((cut one.from (one.from + one.size) w.old.bytes.now ++ (32 ∷ cut two.from (two.from + two.size) w.old.bytes.now)) ++ ascii ")"))) }
 {
     w.put_sign(b'(');
-    w.put_within(i, j);
+    w.put_within(one.from, one.from + one.size);
     w.put_space();
-    w.put_within(k, l);
+    w.put_within(two.from, two.from + two.size);
     w.put_sign(b')');
 }
 
-// Appends the day of the seconds from i up to j in brackets.
-fn put_day(w: &mut Writer<'_>, i: usize, j: usize)
-    requires { ((i ≤ j) × (j ≤ length w.old.bytes.now)) × (is_seconds (cut i j w.old.bytes.now) ≡ true) }
-    ensures { Wrote w.old w.new (written (ascii "(" ++ (day_of (cut i j w.old.bytes.now) ++ ascii ")"))) }
+// Appends the day of some seconds in brackets.
+fn put_day(w: &mut Writer<'_>, seconds: Extent)
+    requires { (seconds.from + seconds.size ≤ length w.old.bytes.now) × (is_seconds (cut seconds.from (seconds.from + seconds.size) w.old.bytes.now) ≡ true) }
+    ensures { Wrote w.old w.new (written (ascii "(" ++ (day_of (cut seconds.from (seconds.from + seconds.size) w.old.bytes.now) ++ ascii ")"))) }
 {
     let mut ten = [0u8; 10];
-    write_day(&w.source()[i..j], &mut ten);
+    write_day(
+        &w.source()[seconds.from..seconds.from + seconds.size],
+        &mut ten,
+    );
     put_bracketed(w, &ten);
 }
 
@@ -128,34 +107,38 @@ fn put_date(w: &mut Writer<'_>, words: Words, date: Field, time: Field, day: boo
     requires { Spoken w.old.bytes.now w.old.at.0 w.old.end words × (FieldAt (said words w.old.bytes.now) Date date × (FieldAt (said words w.old.bytes.now) Time time × (day ≡ is_day (parts 0 (said words w.old.bytes.now))))) }
     ensures { Wrote w.old w.new (written (within (ascii "(") (dateOf (parts 0 (said words w.old.bytes.now))) (ascii ")"))) }
 {
-    let df = words.from.0 + date.value.from;
-    let de = df + date.value.size;
-    let tf = words.from.0 + time.value.from;
-    let te = tf + time.value.size;
+    let d = Extent {
+        from: words.from.0 + date.value.from,
+        size: date.value.size,
+    };
+    let t = Extent {
+        from: words.from.0 + time.value.from,
+        size: time.value.size,
+    };
     if day {
-        put_day(w, tf, te);
+        put_day(w, t);
     } else if date.value.size == 0 {
         if time.value.size != 0 {
-            put_bracketed_within(w, tf, te);
+            put_bracketed_within(w, t);
         }
     } else if time.value.size == 0 {
-        put_bracketed_within(w, df, de);
+        put_bracketed_within(w, d);
     } else {
-        put_both(w, df, de, tf, te);
+        put_both(w, d, t);
     }
 }
 
 // Appends the id of the caption.
-fn put_id(w: &mut Writer<'_>, words: Words, from: usize, size: usize)
-    requires { Spoken w.old.bytes.now w.old.at.0 w.old.end words × (from + size ≤ words.to.0 - words.from.0) }
-    ensures { Wrote w.old w.new (written (within (ascii "#") (bytes (said words w.old.bytes.now) from size) [])) }
+fn put_id(w: &mut Writer<'_>, words: Words, id: Extent)
+    requires { Spoken w.old.bytes.now w.old.at.0 w.old.end words × (id.from + id.size ≤ words.to.0 - words.from.0) }
+    ensures { Wrote w.old w.new (written (within (ascii "#") (bytes (said words w.old.bytes.now) id.from id.size) [])) }
 {
-    if size == 0 {
+    if id.size == 0 {
         return;
     }
-    let i = words.from.0 + from;
+    let i = words.from.0 + id.from;
     w.put_sign(b'#');
-    w.put_within(i, i + size);
+    w.put_within(i, i + id.size);
 }
 
 fn is_dated(date: Field, time: Field) -> bool
@@ -171,22 +154,17 @@ fn put_rest(w: &mut Writer<'_>, words: Words, fields: Fields, day: bool, id: Ext
 {
     put_date(w, words, fields.date, fields.time, day);
     put_gap(w, is_dated(fields.date, fields.time), 0 < id.size);
-    put_id(w, words, id.from, id.size);
+    put_id(w, words, id);
 }
 
 fn put_pieces(w: &mut Writer<'_>, words: Words, fields: Fields, day: bool, id: Extent)
     requires { Spoken w.old.bytes.now w.old.at.0 w.old.end words × (Told (said words w.old.bytes.now) fields day × IdAt (said words w.old.bytes.now) id) }
     ensures { Wrote w.old w.new (written (caption (said words w.old.bytes.now))) }
 {
-    let name = name_at(
-        w.source(),
-        words,
-        fields.name.value.from,
-        fields.name.value.size,
-    );
+    let name = name_at(words, fields.name.value);
     let more = is_dated(fields.date, fields.time) | (0 < id.size);
-    w.put_within(name.from.0, name.to.0);
-    put_gap(w, name.from.0 < name.to.0, more);
+    w.put_within(name.from, name.from + name.size);
+    put_gap(w, 0 < name.size, more);
     put_rest(w, words, fields, day, id);
 }
 

@@ -5,16 +5,14 @@ use mir.Val.{bool_byte}
 use Rattle.std.proofs.lemmas.List.{take-append-le}
 use Rattle.std.proofs.lemmas.List.Edits.{take-paste}
 use mathlib.Core.List.{List, [], ◌∷◌, ◌++◌, append-nil, append_assoc}
-use Prim.Native.Nat.{ℕ, zero, suc, ◌+◌, ◌-◌, ◌*◌, ◌≤◌, ◌<◌}
+use Prim.Native.Nat.{ℕ, suc, ◌+◌, ◌-◌, ◌*◌, ◌≤◌, ◌<◌}
 use native.Mathlib.Nat.{add-zero, le_refl}
-use native.Mathlib.Numerals.{add-one}
 use native.Mathlib.Omega.{arith}
 use lib.Dec.{eqb}
-use lib.ListN.{length, take, drop, get_or, set, length-set, length-append, length-drop}
+use lib.ListN.{length, take, length-append}
 use lib.Seq.{take-take, length-take-le, paste}
 use borrow.Author.Tests.{ne_eqb}
 use Rattle.attribution_parts.specs.Attribution.{Loss, loss_of}
-use Rattle.attribution_reading.specs.Places.{bytes}
 use Rattle.attribution_losses.specs.Lists.{Puts, flag, record_of, records_of, loss_words, Lists}
 
 -- ---- putting

@@ -3,24 +3,22 @@ use mathlib.Core.Path.{◌≡◌, refl, sym, ap, ◌∙◌}
 use mathlib.Core.Bool.{Bool, true, false, cond, not, ◌&&◌, ◌||◌, true≢false}
 use mathlib.Core.List.{List, [], ◌∷◌, ◌++◌, append-nil, append_assoc}
 use Prim.Native.Nat.{ℕ, zero, suc, ◌+◌, ◌-◌, ◌*◌, ◌≤◌, ◌<◌}
-use native.Mathlib.Nat.{add-sub_cancel_left}
 use native.Mathlib.Numerals.{add-one}
 use native.Mathlib.Omega.{arith}
 use lib.Dec.{eqb, ltb}
-use lib.ListN.{length, take, drop, drop_of_length-le, length-drop}
+use lib.ListN.{length, drop, drop_of_length-le, length-drop}
 use borrow.Author.Tests.{eq-eqb, ne_eqb}
 use Rattle.text.specs.Ascii.{ascii, is, is_empty, to_first}
-use Rattle.day.specs.Day.{is_seconds}
 use Rattle.attribution_reading.specs.declared.scan.Place.{Place}
 use Rattle.attribution_parts.specs.declared.Kind.{Kind}
-use Rattle.attribution_parts.specs.declared.Kind.TheVariants.{Name, PostId, Id, Time}
+use Rattle.attribution_parts.specs.declared.Kind.TheVariants.{Name, PostId, Id}
 use Rattle.attribution_reading.specs.declared.facts.Field.{Field}
 use Rattle.attribution_reading.specs.declared.facts.Fields.{Fields}
 use Rattle.attribution_reading.specs.declared.facts.Lead.{Lead}
 use Rattle.attribution_losses.specs.declared.loss.Counts.{Counts}
 use Rattle.attribution_losses.specs.declared.loss.Group.{Group}
 use Rattle.attribution_parts.specs.Parts.{Part, field, text, parts}
-use Rattle.attribution_parts.specs.Attribution.{is_leading, part_no, leading, leading_id, field_of, is_day, Loss, loss_of, run_words, is_used, unnamed, loss_at, losses_from, passed_over, losses_of, losses}
+use Rattle.attribution_parts.specs.Attribution.{is_leading, part_no, leading, leading_id, field_of, Loss, loss_of, run_words, is_used, unnamed, loss_at, losses_from, passed_over, losses_of, losses}
 use Rattle.attribution_reading.specs.Places.{bytes, part_of, part_with, Stands, Scanned}
 use Rattle.attribution_reading.specs.Reads.{FieldAt, FieldsAt, LeadAt}
 use Rattle.attribution_losses.specs.Lists.{Puts, flag, loss_words, record_of, records_of, used_by, passed_by, passed_loss, losses_at, run_at, Told, Here, Ran, Grouped, Lists, Listed}

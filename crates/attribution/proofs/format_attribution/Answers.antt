@@ -1,4 +1,4 @@
-use Rattle.std.proofs.Common.{rules, sym, ◌∙◌}
+use Rattle.std.proofs.Common.{sym, ◌∙◌}
 use Rattle.text.proofs.Clearing.{fill_cleared_all}
 use Rattle.attribution.proofs.Formatting.{all-zero, held-nothing, held}
 use Rattle.attribution.proofs.format_attribution.Goals as goal

@@ -13,5 +13,5 @@ put_within-requires-2 c = let p = wrote-then (wrote-then c.put_sign.ensures c.pu
 
 pub returns : goal.returns
 returns c = let p = c.put_sign.ensures in
-    let q = wrote-then (wrote-then p (wrote-as (ap written (cut-after p c.args.i c.args.j c.requires.0.1)) c.put_within.ensures)) c.put_space.ensures in
-    wrote-as (both-put _ _) (wrote-then (wrote-then q (wrote-as (ap written (cut-after q c.args.k c.args.l c.requires.1.1)) c.put_within-2.ensures)) c.put_sign-2.ensures)
+    let q = wrote-then (wrote-then p (wrote-as (ap written (cut-after p _ _ c.requires.0.1)) c.put_within.ensures)) c.put_space.ensures in
+    wrote-as (both-put _ _) (wrote-then (wrote-then q (wrote-as (ap written (cut-after q _ _ c.requires.1.1)) c.put_within-2.ensures)) c.put_sign-2.ensures)

@@ -9,4 +9,4 @@ put_within-requires c = (inside-after c.put_sign.ensures c.requires.0, apart-aft
 
 pub returns : goal.returns
 returns c = let p = c.put_sign.ensures in
-    wrote-as (bracketed-is _) (wrote-then (wrote-then p (wrote-as (ap written (cut-after p c.args.i c.args.j c.requires.1)) c.put_within.ensures)) c.put_sign-2.ensures)
+    wrote-as (bracketed-is _) (wrote-then (wrote-then p (wrote-as (ap written (cut-after p _ _ c.requires.1)) c.put_within.ensures)) c.put_sign-2.ensures)

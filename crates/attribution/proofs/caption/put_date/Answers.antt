@@ -1,4 +1,3 @@
-use native.Mathlib.Omega.{arith}
 use mathlib.Core.Path.{sym, ap, ◌∙◌}
 use Prim.Native.Nat.{ℕ, ◌+◌, ◌-◌}
 use mathlib.Core.List.{List, ◌++◌, append-nil}
@@ -18,7 +17,7 @@ put_day-requires c = let a = c.args in
     let q = c.requires in
     let s = a.w.now.bytes.now in
     let t = field-inside s a.words q.0 Time a.time q.1.1.0 in
-    ((omega arith, inner-end s a.words q.0 a.time.value.from a.time.value.size t), ap is_seconds (inner_cut s a.words q.0 a.time.value.from a.time.value.size t) ∙ day-seconds (said a.words s) a.time q.1.1.0 a.day q.1.1.1 c.if-day.true)
+    (inner-end s a.words q.0 a.time.value.from a.time.value.size t, ap is_seconds (inner_cut s a.words q.0 a.time.value.from a.time.value.size t) ∙ day-seconds (said a.words s) a.time q.1.1.0 a.day q.1.1.1 c.if-day.true)
 
 pub returns-then-day : goal.returns-then-day
 returns-then-day c = let a = c.args in

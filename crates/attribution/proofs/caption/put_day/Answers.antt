@@ -1,5 +1,5 @@
 use mathlib.Core.Path.{ap, ◌∙◌}
-use Prim.Native.Nat.{ℕ}
+use Prim.Native.Nat.{ℕ, ◌+◌}
 use mathlib.Core.List.{List, ◌++◌}
 use Rattle.day.specs.Day.{day_of}
 use Rattle.text.specs.Writes.{cut}
@@ -11,4 +11,4 @@ use Rattle.attribution.proofs.caption.put_day.Goals as goal
 
 pub returns : goal.returns
 returns c = let a = c.args in
-    wrote-as (ap (λ (x : List ℕ). written (ascii "(" ++ (x ++ ascii ")"))) (rw c.source.ensures at c.write_day.ensures ∙ append-nil (day_of (cut a.i a.j a.w.now.bytes.now)))) c.put_bracketed.ensures
+    wrote-as (ap (λ (x : List ℕ). written (ascii "(" ++ (x ++ ascii ")"))) (rw c.source.ensures at c.write_day.ensures ∙ append-nil (day_of (cut a.seconds.from (a.seconds.from + a.seconds.size) a.w.now.bytes.now)))) c.put_bracketed.ensures

@@ -1,6 +1,4 @@
-use native.Mathlib.Omega.{arith}
 use Rattle.std.proofs.Common.{rules}
-use Rattle.std.proofs.lemmas.Grind.{common_steps}
 use Rattle.attribution_reading.proofs.Ids.{lead-is}
 use Rattle.attribution_reading.proofs.facts.is_leading.Goals as goal
 

@@ -1,4 +1,4 @@
-use Rattle.std.proofs.Common.{rules, not, ◌≡◌}
+use Rattle.std.proofs.Common.{rules, not}
 use Rattle.attribution_parts.specs.Parts.{is_space}
 use Rattle.attribution_reading.proofs.Laws.{begin}
 use Rattle.attribution_reading.proofs.scan.first_at.Goals as goal

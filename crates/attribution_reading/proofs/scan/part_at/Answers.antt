@@ -1,4 +1,4 @@
-use Rattle.std.proofs.Common.{rules, not, ◌≡◌, sym, ◌∙◌}
+use Rattle.std.proofs.Common.{rules, not, sym, ◌∙◌}
 use Rattle.attribution_parts.specs.Parts.{in_key}
 use Rattle.attribution_reading.proofs.Laws.{part-text, part_field, no_start, no_more, no-equals, value-run, key-run, key-unquoted}
 use Rattle.attribution_reading.proofs.scan.part_at.Goals as goal

@@ -1,5 +1,5 @@
 use native.Mathlib.Omega.{arith}
-use Rattle.std.proofs.Common.{rules, refl, ◌≡◌, ◌∙◌}
+use Rattle.std.proofs.Common.{rules, refl, ◌∙◌}
 use Rattle.attribution_parts.specs.Parts.{is_space}
 use Rattle.attribution_reading.proofs.scan.run_value.Goals as goal
 

@@ -1,5 +1,4 @@
-use native.Mathlib.Omega.{arith}
-use Rattle.std.proofs.Common.{rules, sym, ◌∙◌, ◌≡◌, eqb}
+use Rattle.std.proofs.Common.{rules, sym, ◌∙◌, eqb}
 use Rattle.attribution_reading.proofs.Laws.{value-run, value-quoted, end-unquoted, other-unquoted, open-unquoted}
 use Rattle.attribution_reading.proofs.scan.value_at.Goals as goal
 use Rattle.attribution_reading.proofs.scan.value_at.Goals.{then-at-s+then-is_quote+else-close-s, else-at-s, else-at-s-via-then-at-s+else-is_quote, else-at-s-via-else-at-s}
