@@ -6,8 +6,8 @@ use Prim.Native.Nat.{ℕ, zero, suc, ◌+◌, ◌-◌, ◌*◌, ◌≤◌, ◌<�
 use native.Mathlib.Nat.{add-sub_cancel_left}
 use native.Mathlib.Omega.{arith}
 use lib.Dec.{eqb, ltb}
-use lib.ListN.{length, take, drop, get_or, drop_of_length-le}
-use lib.Seq.{take-take, drop-drop, get_or-take}
+use lib.ListN.{length, take, drop, drop_of_length-le}
+use lib.Seq.{take-take, drop-drop}
 use borrow.Author.Tests.{eq-eqb, ne_eqb, lt-ltb, le-ltb}
 use Rattle.text.specs.Ascii.{is_empty}
 use Rattle.attribution_reading.specs.declared.scan.Place.{Place}
@@ -27,9 +27,6 @@ use Rattle.attribution_losses.proofs.Listing.{puts_none, puts_then, puts-as}
 use Rattle.attribution_losses.proofs.Losing.{empty-is}
 
 -- ---- what stands before the place stays
-
-pub byte-kept : (v v' : List ℕ) (at j : ℕ) → take at v' ≡ take at v → j < at → get_or v' j 0 ≡ get_or v j 0
-byte-kept v v' at j e lt = sym (get_or-take at v' j 0 lt) ∙ ap (λ (l : List ℕ). get_or l j 0) e ∙ get_or-take at v j 0 lt
 
 bytes_take : (v : List ℕ) (a n : ℕ) → bytes v a n ≡ drop a (take (a + n) v)
 unfolding bytes

@@ -33,6 +33,7 @@ pub fn join_texts(work: &mut [u8], a: usize, e: usize, at: usize) -> usize
     let lead = leading_id(&work[a..e]);
     let mut pos = lead.next;
     let mut to = at;
+    // A while: parts differ in size.
     while pos < e - a {
         let p = read_part(&work[a..e], pos);
         if is_name(&work[a..e], p) {

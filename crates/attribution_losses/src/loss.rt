@@ -1,4 +1,4 @@
-// The losses of an attribution: counted, and listed in lent slices.
+// The losses of an attribution: counted, and listed in lent slices. Its loops are whiles, since parts differ in size.
 ghost use Rattle.std.specs.Prelude.{◌≡◌, ◌+◌, ◌-◌, ◌*◌, ◌≤◌, ◌<◌, length};
 ghost use Rattle.attribution_parts.specs.Parts.{parts};
 ghost use Rattle.attribution_parts.specs.Attribution.{is_day, losses};

@@ -14,7 +14,7 @@ use lib.Dec.{eqb}
 use lib.ListN.{length, drop, get_or, drop_of_length-le, length-drop, get_or-eq_default}
 use lib.Seq.{length-take-le, get_or-drop}
 use borrow.Author.Tests.{eq-eqb, ne_eqb, eqb-true, lt-ltb}
-use Rattle.text.specs.Ascii.{ascii, is, inside, small, spells, digits, all_digits}
+use Rattle.text.specs.Ascii.{ascii, is, inside, small, spells, digits}
 use Rattle.attribution_parts.specs.declared.Kind.{Kind}
 use Rattle.attribution_parts.specs.declared.Kind.TheVariants.{Name, PostId, Id, Date, Time}
 use Rattle.attribution_reading.specs.declared.facts.Field.{Field}
@@ -65,14 +65,6 @@ word-is w s r e h = by r (spells w s) (λ p. spelt w s (h.0 p ∙ e)) (λ p. h.1
     by true b f g = sym (f refl)
     by false true f g = g refl
     by false false f g = refl
-
-pub digits-none : (s : List ℕ) → length s ≡ 0 → digits s ≡ false
-digits-none [] e = refl
-digits-none (b ∷ s) e = let z : suc (length s) ≡ 0 = e in absurd (omega arith)
-
-pub digits-some : (s : List ℕ) → (length s ≡ 0 → ⊥) → digits s ≡ all_digits s
-digits-some [] n = absurd (n refl)
-digits-some (b ∷ s) n = refl
 
 pub length-bytes : (s : List ℕ) (a n : ℕ) → a + n ≤ length s → length (bytes s a n) ≡ n
 unfolding bytes

@@ -199,6 +199,7 @@ fn with_parts(s: &[u8], found: Fields, first: usize, start: usize) -> Fields
     let mut i = first;
     let mut fields = found;
     let mut reader = Reader::new(s, start);
+    // A while: parts differ in size.
     while reader.next < s.len() {
         fields = with_field(s, fields, reader.next_part(), i);
         i += 1;

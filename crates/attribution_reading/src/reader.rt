@@ -1,4 +1,5 @@
-// The reader: it keeps the attribution beside the next part's start. Its methods are thin, and the scanner does the work.
+// The reader: it keeps the attribution beside the next part's start. Its methods are thin, and the scanner does the work. No iterator: a part is
+// known by where it starts, which a loop over the parts has to see too.
 ghost use Rattle.std.specs.Prelude.{◌≡◌, false, ◌<◌, length, get_or};
 ghost use Rattle.attribution_parts.specs.Parts.{is_space};
 ghost use Rattle.attribution_reading.specs.Places.{Scanned};

@@ -25,9 +25,6 @@ returns-then-loss_bytes-counts c = let n = c.count_losses-counts.ensures in
 pub set_caption-to-requires : goal.set_caption-to-requires
 set_caption-to-requires c = let h = enough _ _ (sym c.check.ensures ∙ c.in_ok-check.was) in ((h.text, h.out), (omega arith, omega arith))
 
-pub overflow_sub-size : goal.overflow_sub-size
-overflow_sub-size c = caption-from c.args.text.now _ c.set_caption-to.ensures
-
 pub returns-then-m-size : goal.returns-then-m-size
 returns-then-m-size c = let n = c.count_losses-counts.ensures in
     no-space _ _ _ _ _ _ _ (sym c.check.ensures ∙ c.in_ok-check.was) _ _ n.0 n.1 c.if-lent-counts.false c.if-loss_bytes-counts.false c.set_caption-to.ensures c.if-m-size.true

@@ -1,11 +1,8 @@
 use mathlib.Core.Path.{ap}
 use Rattle.attribution.proofs.Captioning.{bracketed-is}
-use Rattle.text.proofs.Writers.{wrote-as, wrote-then, inside-after, apart-after, cut-after}
+use Rattle.text.proofs.Writers.{wrote-as, wrote-then, cut-after}
 use Rattle.text.specs.Cells.{written}
 use Rattle.attribution.proofs.caption.put_bracketed_within.Goals as goal
-
-pub put_within-requires : goal.put_within-requires
-put_within-requires c = (inside-after c.put_sign.ensures c.requires.0, apart-after c.put_sign.ensures c.requires.1)
 
 pub returns : goal.returns
 returns c = let p = c.put_sign.ensures in

@@ -1,4 +1,3 @@
-use native.Mathlib.Omega.{arith}
 use mathlib.Core.Path.{◌≡◌, sym, ap, subst, refl, ◌∙◌}
 use Prim.Native.Nat.{ℕ, ◌+◌}
 use native.Mathlib.Nat.{add-sub_cancel_left}
@@ -13,15 +12,9 @@ use Rattle.text.specs.Writes.{cut}
 use Rattle.text.specs.Ascii.{ascii}
 use Rattle.text.specs.Cells.{written}
 use Rattle.text.proofs.Writers.{wrote-as, wrote-then}
-use Rattle.attribution.proofs.Speaking.{cut-length, said-length, said-after, spoken-after}
+use Rattle.attribution.proofs.Speaking.{cut-length, said-after, spoken-after}
 use Rattle.attribution.proofs.Captioning.{caption-is}
 use Rattle.attribution.proofs.caption.put_pieces.Goals as goal
-
-pub name_at-name-requires : goal.name_at-name-requires
-name_at-name-requires c = let a = c.args in
-    let q = c.requires in
-    let l = said-length a.w.now.bytes.now a.words q.0 in
-    ((q.0.order, q.0.joined-order), omega (arith, l, q.1.0.fields.name.inside))
 
 pub put_within-requires : goal.put_within-requires
 put_within-requires c = let q = c.requires.0 in
