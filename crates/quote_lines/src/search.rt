@@ -36,7 +36,7 @@ fn past_backslashes(s: &[u8], at: usize) -> usize
     first_from(s, at, |b| b != b'\\')
 }
 
-// Whether two texts are the same without their backslashes.
+// Whether two texts are the same without their backslashes. A while: both places move, by different steps.
 fn same_bare(s: &[u8], a: &[u8]) -> bool
     ensures { result ≡ same (bare s.now) (bare a.now) }
 {
@@ -105,7 +105,7 @@ pub struct Opener {
     pub size: usize,
 }
 
-// The first opener from a place on, if there is one.
+// The first opener from a place on, if there is one. A while: it goes from one place where a tag may begin to the next.
 fn next_opener(s: &[u8], at: PostAt, known: PostAt) -> Option<Opener>
     requires { (at.0 ≤ length s.now) × NextBracket s.now at.0 known.0 }
     ensures { MatchOption result (Untagged s.now at.0 (length s.now)) (λ o. NextOpener s.now at.0 o.at.0 o.bracket.0 o.size × (o.size ≡ 0 → ⊥)) }
@@ -172,7 +172,7 @@ fn put_weights(s: &[u8], numbers: &mut [u32], t: usize, count: usize)
     }
 }
 
-// Writes the table of the quote tags of a text from place t of the numbers on, and returns how many there are.
+// Writes the table of the quote tags of a text from place t of the numbers on, and returns how many there are. A while: tags have different sizes.
 pub fn read_tags(s: &[u8], numbers: &mut [u32], t: usize) -> usize
     requires { (length s.now ≤ text_most) × (t + length s.now ≤ length numbers.old) }
     ensures { Table s.now numbers.new t result × (take t numbers.new ≡ take t numbers.old) }
