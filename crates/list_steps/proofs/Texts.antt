@@ -111,10 +111,3 @@ rest-least (Opener n o) k = omega arith
 rest-least Item k = omega arith
 rest-least Closer k = omega arith
 rest-least Plain k = omega arith
-
--- what stands behind a tag's first cell does not hang on the text behind it
-pub rest-tag : (t : Tag) (more : ℕ) → (t ≡ Plain → ⊥) → rest_of t ≡ rest_with t more
-rest-tag (Opener n o) more h = refl
-rest-tag Item more h = refl
-rest-tag Closer more h = refl
-rest-tag Plain more h = absurd (h refl)

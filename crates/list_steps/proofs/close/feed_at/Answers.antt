@@ -1,9 +1,5 @@
-use native.Mathlib.Omega.{arith}
 use Rattle.list_steps.proofs.Closing.{feed-lead, feed-empty, feed-some}
 use Rattle.list_steps.proofs.close.feed_at.Goals as goal
-
-pub overflow_add-frame : goal.overflow_add-frame
-overflow_add-frame c = omega (arith, c.frame_at-frame.ensures.outer-small)
 
 pub returns-then-first-frame : goal.returns-then-first-frame
 returns-then-first-frame c = feed-lead _ _ _ _ _ _ _ c.frame_at-frame.ensures c.if-first-frame.true

@@ -61,12 +61,6 @@ step-requires c = let p = c.requires in
     let t = turn-pushes _ _ _ _ x.areas.base.0 _ _ _ _ _ _ _ l.i _ v.5 lb v.2 (omega (arith, v.0.0, k.0)) (omega (arith, v.0.1, k.1.0)) c.loop-i-test.true p.0.1 _ c.tag_at-tag.ensures _ c.rest_of-n.ensures in
     (running-ready _ _ _ _ x.areas.base.0 _ _ _ _ _ _ _ _ v.5 lb v.2 (omega (arith, v.0.0, k.0)) (omega (arith, v.0.1, k.1.0)) (omega (arith, v.0.1, z.1.1)), ((omega (arith, s.0, p.0.1), s.1.0), (omega (arith, v.4, t, v.0.1), (z.0, (omega (arith, v.0.0, z.1.0), omega (arith, v.0.1, z.1.1))))))
 
-pub shape_of-work-then-areas-st : goal.shape_of-work-then-areas-st
-shape_of-work-then-areas-st c = omega (arith, c.loop-i.invariant.0.0, c.step.auto.work)
-
-pub shape_of-numbers-then-areas-st : goal.shape_of-numbers-then-areas-st
-shape_of-numbers-then-areas-st c = omega (arith, c.loop-i.invariant.0.1, c.step.auto.numbers)
-
 pub returns-then-areas-st : goal.returns-then-areas-st
 returns-then-areas-st c = let p = c.requires in
     let x = c.args in
@@ -104,17 +98,6 @@ overflow_add-i-in-loop-i c = let p = c.requires in
     let lb = before-length x.work.now x.numbers.now x.areas.base.0 x.areas.end.0 z.0.0 k.0 k.1.0 in
     let s = turn-size _ _ _ _ x.areas.base.0 _ _ _ _ _ _ _ l.i _ v.5 lb v.2 (omega (arith, v.0.0, k.0)) (omega (arith, v.0.1, k.1.0)) c.loop-i-test.true p.0.1 _ c.tag_at-tag.ensures _ c.rest_of-n.ensures in
     omega (arith, s.0, p.0.1, z.0, p.1.1, z.1.1)
-
-pub loop-i-smaller : goal.loop-i-smaller
-loop-i-smaller c = let p = c.requires in
-    let x = c.args in
-    let l = c.loop-i in
-    let v = l.invariant in
-    let z = p.1.0 in
-    let k = room x.areas.base.0 x.areas.end.0 x.areas.table.0 _ _ _ z.0.0 z.0.1 z.1.0 p.1.1 in
-    let lb = before-length x.work.now x.numbers.now x.areas.base.0 x.areas.end.0 z.0.0 k.0 k.1.0 in
-    let s = turn-size _ _ _ _ x.areas.base.0 _ _ _ _ _ _ _ l.i _ v.5 lb v.2 (omega (arith, v.0.0, k.0)) (omega (arith, v.0.1, k.1.0)) c.loop-i-test.true p.0.1 _ c.tag_at-tag.ensures _ c.rest_of-n.ensures in
-    omega (arith, s.0, c.loop-i-test.true)
 
 pub loop-i-preserved : goal.loop-i-preserved
 loop-i-preserved c = let p = c.requires in

@@ -4,9 +4,6 @@ use Prim.Native.Nat.{◌+◌}
 use Rattle.list_steps.proofs.Depths.{depth-size, depth-over, depth-goes, depth-end}
 use Rattle.list_steps.proofs.pass.too_deep.Goals as goal
 
-pub loop-i-init : goal.loop-i-init
-loop-i-init c = (refl, omega arith, c.requires.1, refl)
-
 pub returns-then-depth-gt-DEEP_MOST : goal.returns-then-depth-gt-DEEP_MOST
 returns-then-depth-gt-DEEP_MOST c = let v = c.loop-i.invariant in sym (v.3 ∙ depth-over _ _ c.requires.0 c.loop-i.i _ c.loop-i-test.true _ c.tag_at-tag.ensures _ c.rest_of-size.ensures v.2 (omega (arith, c.if-depth-gt-DEEP_MOST.true, c.depth_after-depth.ensures)))
 
@@ -15,9 +12,6 @@ overflow_add-i c = let s = depth-size c.args.src.now c.args.from.now c.requires.
 
 pub overflow_add-i-in-loop-i : goal.overflow_add-i-in-loop-i
 overflow_add-i-in-loop-i c = let s = depth-size c.args.src.now c.args.from.now c.requires.0 c.loop-i.i 0 c.loop-i-test.true c.tag_at-tag.result c.tag_at-tag.ensures c.rest_of-size.result c.rest_of-size.ensures in omega (arith, s)
-
-pub loop-i-smaller : goal.loop-i-smaller
-loop-i-smaller c = let s = depth-size c.args.src.now c.args.from.now c.requires.0 c.loop-i.i 0 c.loop-i-test.true c.tag_at-tag.result c.tag_at-tag.ensures c.rest_of-size.result c.rest_of-size.ensures in omega (arith, s)
 
 pub loop-i-preserved : goal.loop-i-preserved
 loop-i-preserved c = let v = c.loop-i.invariant in let s = depth-size c.args.src.now c.args.from.now c.requires.0 c.loop-i.i 0 c.loop-i-test.true c.tag_at-tag.result c.tag_at-tag.ensures c.rest_of-size.result c.rest_of-size.ensures in let d = c.depth_after-depth.ensures in let e : c.loop-i.i + (c.rest_of-size.result + 1) ≡ c.loop-i.i + c.rest_of-size.result + 1 = omega arith in rw e (refl, omega (arith, s), omega (arith, c.if-depth-gt-DEEP_MOST.false), v.3 ∙ rw d (depth-goes _ _ c.requires.0 c.loop-i.i _ c.loop-i-test.true _ c.tag_at-tag.ensures c.rest_of-size.result c.rest_of-size.ensures (omega (arith, d, c.if-depth-gt-DEEP_MOST.false))))

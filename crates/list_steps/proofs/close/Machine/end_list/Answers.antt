@@ -4,18 +4,10 @@ use Rattle.text.specs.Cells.{cells}
 use Rattle.list_steps.proofs.Steppings.{stray-closer, counting-closer}
 use Rattle.list_steps.proofs.close.Machine.end_list.Goals as goal
 
-pub keep-requires : goal.keep-requires
-keep-requires c = let p = c.requires in (p.0, p.1.0)
-
 pub returns-then-self-areas : goal.returns-then-self-areas
 returns-then-self-areas c = let x = c.args in
     let k = c.keep.ensures in
     (stray-closer (drop x.i.0 (cells x.work.now x.numbers.now)) _ _ _ _ _ _ _ _ _ _ _ _ _ _ _ c.if-self-areas.true k.0, k.1, k.2)
-
-pub close_list-requires : goal.close_list-requires
-close_list-requires c = let p = c.requires in
-    let r = p.0.holds.reaches in
-    (p.0, (omega (arith, r.0, c.if-self-areas.false), p.1.1))
 
 pub returns : goal.returns
 returns c = let p = c.requires in

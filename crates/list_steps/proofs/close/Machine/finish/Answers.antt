@@ -3,28 +3,17 @@ use native.Mathlib.Omega.{arith}
 use mathlib.Core.Path.{refl}
 use Rattle.list_steps.proofs.Steppings.{ready-base}
 use Rattle.list_steps.proofs.Runs.{ready-next, finish-turn, finish-over, none_open, ends-done}
-use Rattle.list_steps.proofs.Outside.{stays-none, stays_then}
+use Rattle.list_steps.proofs.Outside.{stays_then}
 use Rattle.list_steps.proofs.close.Machine.finish.Goals as goal
-
-pub loop-self-init : goal.loop-self-init
-loop-self-init c = let p = c.requires in ((refl, refl), p.1.1, p.0, λ x before lb w. w, stays-none _ _ _ _ _)
 
 pub overflow_sub-self : goal.overflow_sub-self
 overflow_sub-self c = let b = ready-base _ _ _ _ _ _ _ _ _ c.loop-self.invariant.2 in omega (arith, b)
-
-pub close_list-requires : goal.close_list-requires
-close_list-requires c = let v = c.loop-self.invariant in
-    let z = c.requires.1.0 in
-    (v.2, (omega (arith, c.loop-self-test.true), (z.0, (omega (arith, v.0, z.1.0), omega (arith, v.0, z.1.1)))))
 
 pub returns-then-areas-self : goal.returns-then-areas-self
 returns-then-areas-self c = let v = c.loop-self.invariant in
     let r = v.2 in
     let q = c.close_list.ensures in
     (λ x before lb w. (refl, finish-over x before _ _ _ _ _ _ _ _ _ _ (v.3 x before lb w) lb r.fits r.within.0 r.within.1.0 (omega (arith, c.loop-self-test.true)) _ _ _ _ _ _ q.0.0 (omega (arith, r.within.0)) (omega (arith, r.within.1.0)) c.if-areas-self.true), stays_then v.4 q.0.2)
-
-pub loop-self-smaller : goal.loop-self-smaller
-loop-self-smaller c = omega (arith, c.close_list.ensures.1)
 
 pub loop-self-preserved : goal.loop-self-preserved
 loop-self-preserved c = let v = c.loop-self.invariant in

@@ -5,11 +5,6 @@ use Rattle.text.proofs.Writing.{cells-le}
 use Rattle.list_steps.proofs.Outside.{stays-appends}
 use Rattle.list_steps.proofs.close.Machine.keep.Goals as goal
 
-pub overflow_add-i : goal.overflow_add-i
-overflow_add-i c = let p = c.requires in
-    let b = ready-base _ _ _ _ _ _ _ _ _ p.0 in
-    omega (arith, p.1, b, p.0.fits, p.0.within.1.0, p.0.within.1.1)
-
 pub copy_within-self-requires : goal.copy_within-self-requires
 copy_within-self-requires c = let p = c.requires in
     let b = ready-base _ _ _ _ _ _ _ _ _ p.0 in

@@ -6,10 +6,6 @@ use Rattle.list_blocks.proofs.Kept.{kept_table}
 use Rattle.list_steps.proofs.Within.{closing-in}
 use Rattle.list_steps.proofs.close.Machine.put_closing.Goals as goal
 
-pub feeds_before-before-requires : goal.feeds_before-before-requires
-feeds_before-before-requires c = let fr = c.requires.0 in
-    (fr.inner.0, (omega (arith, fr.inner.1, fr.fits.1.1), (omega (arith, fr.start, fr.fits.0), (omega (arith, fr.start, fr.fits.1.0), fr.short))))
-
 pub put_block-requires : goal.put_block-requires
 put_block-requires c = let fr = c.requires.0 in
     let p = c.put_blanks.ensures in

@@ -5,17 +5,10 @@ use Rattle.list_steps.proofs.Steppings.{ready-base, stray-item, counting-item}
 use Rattle.list_steps.proofs.Outside.{stays-set}
 use Rattle.list_steps.proofs.close.Machine.start_item.Goals as goal
 
-pub keep-requires : goal.keep-requires
-keep-requires c = let p = c.requires in (p.0, p.1.0)
-
 pub returns-then-self-areas : goal.returns-then-self-areas
 returns-then-self-areas c = let x = c.args in
     let k = c.keep.ensures in
     (stray-item (drop x.i.0 (cells x.work.now x.numbers.now)) _ _ _ _ _ _ _ _ _ _ _ _ _ _ _ c.if-self-areas.true k.0, omega (arith, k.1), k.2)
-
-pub overflow_cast-numbers : goal.overflow_cast-numbers
-overflow_cast-numbers c = let r = c.requires.0 in
-    omega (arith, r.fits, r.within.1.0, r.within.1.1)
 
 pub returns : goal.returns
 returns c = let p = c.requires in
