@@ -10,7 +10,7 @@ use lib.ListN.{length, take, drop, get_or, set, length-append, length-drop, leng
 use lib.Seq.{paste, take-paste, drop-paste, take-set-lt, take-set-le, drop-set-lt, take-append-le, get_or-take, get_or-drop, length-take-le, take_all, take-take, take-nil, drop_at, drop-drop}
 use Rattle.text.specs.Cells.{Cell, cell, cells, part, written}
 use Rattle.text.specs.Writes.{Holds, Appends, AppendsIn, Apart, cut, Pasted}
-use Rattle.text.proofs.Writing.{cells-set, cells-le, part-snoc, appends-none, appends-then, appends-set, appends-over, appends-run, cells-short, cells-short₂}
+use Rattle.text.proofs.Writing.{cells-set, cells-le, appends-none, appends-then, appends-set, appends-over, appends-run, cells-short, cells-short₂}
 use Rattle.text.proofs.Numbering.{Placed, rest, written_start, written-turn, from_end}
 use Rattle.text.proofs.Sources.{cells-taken, cells-dropped, cells-part}
 
@@ -204,13 +204,6 @@ module _ {bs ns bs' ns' : List ℕ} {end at r : ℕ} {t : List Cell} (i : ℕ) (
 
   pub apart-number : get_or ns' i 0 ≡ get_or ns i 0
   apart-number = apart-one ns ns' p.numbers-before p.numbers-behind
-
--- a turn of a loop that copies a part that stands outside of the area
-pub apart-turn : {bs₂ ns₂ : List ℕ} {to r : ℕ} (bs ns bs₀ ns₀ : List ℕ) (a i end at : ℕ)
-    → AppendsIn bs₀ ns₀ end at bs ns to (part a i (cells bs₀ ns₀)) → AppendsIn bs ns end to bs₂ ns₂ r (cell (get_or bs i 0) (get_or ns i 0) ∷ [])
-    → a ≤ i → Apart i (i + 1) at end → i < length bs₀ → i < length ns₀ → AppendsIn bs₀ ns₀ end at bs₂ ns₂ r (part a (i + 1) (cells bs₀ ns₀))
-apart-turn bs ns bs₀ ns₀ a i end at p q h f hb hn =
-    rw (part-snoc bs₀ ns₀ a i hb hn h, sym (apart-byte i f p), sym (apart-number i f p)) (appends_in-then p q)
 
 -- ---- a loop that appends in an area: what is still to be written (rest) of all that is to be appended (whole)
 

@@ -4,9 +4,9 @@ use Prim.Native.Nat.{ℕ, zero, suc, ◌+◌, ◌/◌, ◌≤◌, ◌<◌}
 use native.Mathlib.Nat.{zero-sub, suc-sub-suc, sub-zero, le_of_suc-le-suc, not-suc-le-zero}
 use native.Mathlib.Numerals.{add-one}
 use Rattle.text.specs.Cells.{cells, bytes, origins}
-use mathlib.Core.List.{List, [], ◌∷◌, ◌++◌, map}
-use lib.ListN.{length, take, drop, get_or, set, replicate, length-map}
-use lib.Seq.{take-nil, take-suc, take-suc-set, length-take-le}
+use mathlib.Core.List.{List, [], ◌∷◌, map}
+use lib.ListN.{length, take, drop, set, replicate, length-map}
+use lib.Seq.{take-nil, length-take-le}
 use borrow.Rule.Slice.PartMut.{put_mid}
 use Rattle.std.proofs.Common.{◌-◌, arith, append-nil}
 use Rattle.std.proofs.lemmas.List.{length-drop, length-take, drop_all}
@@ -46,18 +46,9 @@ fill_cleared_all xs ys filled = rw sub-zero (filled (λ y (k : y ≡ 0). k))
 
 -- ---- laying out
 
-map_snoc : (f : ℕ → ℕ) (xs : List ℕ) (x : ℕ) → map f (xs ++ (x ∷ [])) ≡ map f xs ++ (f x ∷ [])
-map_snoc f [] x = refl
-map_snoc f (y ∷ xs) x = ap (λ (l : List ℕ). f y ∷ l) (map_snoc f xs x)
-
 pub map_same : (xs : List ℕ) → map (λ x. x) xs ≡ xs
 map_same [] = refl
 map_same (x ∷ xs) = ap (λ (l : List ℕ). x ∷ l) (map_same xs)
-
--- a turn: one element more of xs stands in out, each through f
-pub laid-turn : (f : ℕ → ℕ) (xs out : List ℕ) (i : ℕ) → i < length xs → i < length out → take i out ≡ map f (take i xs)
-    → take (i + 1) (set out i (f (get_or xs i 0))) ≡ map f (take (i + 1) xs)
-laid-turn f xs out i h k e = rw (add-one, take-suc-set out i (f (get_or xs i 0)) k, take-suc xs i 0 h, map_snoc, e)
 
 pub laid-cleared : (xs out : List ℕ) (n m : ℕ) → length out ≡ m → length xs ≡ n → take n out ≡ xs → cleared n out ≡ padded m xs
 unfolding cleared padded

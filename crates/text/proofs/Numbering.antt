@@ -5,10 +5,9 @@ use Prim.Native.Nat.{ℕ, zero, suc, ◌+◌, ◌-◌, ◌*◌, ◌/◌, ◌%◌
 use lib.Dec.{ltb}
 use native.Mathlib.Numerals.{add-one}
 use native.Mathlib.Omega.{arith}
-use native.Mathlib.Decide.{dec_le}
 use mathlib.Core.List.{List, [], ◌∷◌, ◌++◌, append-nil}
 use lib.ListN.{length, take, drop, get_or, set, drop_of_length-le}
-use lib.Seq.{drop-cons, take-suc-set, take_all, append_snoc, get_or-set_same, get_or-set_other}
+use lib.Seq.{drop-cons, take-suc-set, take_all, append_snoc}
 use Rattle.text.specs.Blanks.{blank1, blank_size}
 use Rattle.text.specs.Cells.{Cell, cell, cells, blank_at, more_after, cells_from, cells_of, written}
 use Rattle.text.proofs.Writing.{cells_in, cells-short}
@@ -88,15 +87,6 @@ plain_turn s ns i x f h k a q e =
     by : (t : Bool) → f ≡ cond t 1 0 → (f ≡ cond (ltb 0 0 || ltb 0 (cond t 1 0)) 1 0) × (0 ≡ cond (ltb 0 0) (0 - 1) (cond t 1 0 - 1))
     by true e = (e, refl)
     by false e = (e, refl)
-
--- a flag more
-pub flags-turn : (p : ℕ → ℕ) (flags : List ℕ) (k : ℕ) {f : ℕ} → k < length flags → f ≡ p k → ((j : ℕ) → j < k → get_or flags j 0 ≡ p j)
-    → (j : ℕ) → j < k + 1 → get_or (set flags k f) j 0 ≡ p j
-flags-turn p flags k {f} h e g j l =
-    elim (dec_le k j) [
-      | yes le ↦ let q : j ≡ k = omega arith in rw q (get_or-set_same flags k f 0 h ∙ e)
-      | no n ↦ get_or-set_other flags k j f 0 (λ q. n (omega (arith, q))) ∙ g j (omega arith)
-    ]
 
 pub plain-small : (b f : ℕ) → f ≡ cond (blank1 b) 1 0 → f ≤ 1
 plain-small b f e = at_most_one f (blank1 b) e

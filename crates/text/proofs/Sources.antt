@@ -1,16 +1,12 @@
 -- Laws of a source: a text at the front of a pair of slices, and parts of a pair. Assumes nothing.
 use mathlib.Core.Path.{◌≡◌, refl, sym, ap, ◌∙◌}
 use mathlib.Core.List.{List, [], ◌∷◌, ◌++◌, append-nil}
-use Prim.Native.Nat.{ℕ, zero, suc, ◌+◌, ◌-◌, ◌≤◌, ◌<◌}
-use native.Mathlib.Numerals.{add-one}
+use Prim.Native.Nat.{ℕ, zero, suc, ◌+◌, ◌-◌, ◌≤◌}
 use native.Mathlib.Omega.{arith}
-use lib.ListN.{length, take, drop, get_or, set, length-drop, drop_of_length-le}
-use lib.Seq.{take-suc, take-suc-set, take_all, take-length, take-take, take-add, take-append-le, drop_at, length-take-le}
+use lib.ListN.{length, take, drop, length-drop, drop_of_length-le}
+use lib.Seq.{take_all, take-length, take-take, take-add, take-append-le, drop_at, length-take-le}
 use Rattle.text.specs.Cells.{Cell, cell, cells, cells_of, part}
 use Rattle.text.proofs.Writing.{cells-short, cells-le}
-
-pub source-turn : (text work : List ℕ) (i : ℕ) → i < length text → i < length work → take i work ≡ take i text → take (i + 1) (set work i (get_or text i 0)) ≡ take (i + 1) text
-source-turn text work i h k e = rw (add-one i, take-suc-set work i (get_or text i 0) k, take-suc text i 0 h, e)
 
 -- ---- parts
 

@@ -30,14 +30,6 @@ module _ (bs ns : List ℕ) (i e : ℕ) (lt : i < e) (hb : e ≤ length bs) (hn 
   unfolding trim_start
   trim_start-other t = rw (part-cons bs ns i e lt hb hn, t)
 
-  pub all_blank-blank : is_blank (get_or ns i 0) ≡ true → all_blank (part i e (cells bs ns)) ≡ all_blank (part (i + 1) e (cells bs ns))
-  unfolding all_blank
-  all_blank-blank t = rw (part-cons bs ns i e lt hb hn, t)
-
-  pub all_blank-other : is_blank (get_or ns i 0) ≡ false → all_blank (part i e (cells bs ns)) ≡ false
-  unfolding all_blank
-  all_blank-other t = rw (part-cons bs ns i e lt hb hn, t)
-
 module _ (x : List Cell) (i e : ℕ) (h : e ≤ i) where
   pub trim_start-end : trim_start (part i e x) ≡ part i e x
   unfolding trim_start
@@ -46,10 +38,6 @@ module _ (x : List Cell) (i e : ℕ) (h : e ≤ i) where
   pub trim_end-end : trim_end (part i e x) ≡ part i e x
   unfolding trim_end
   trim_end-end = rw (part_end i e x h)
-
-  pub all_blank-end : all_blank (part i e x) ≡ true
-  unfolding all_blank
-  all_blank-end = rw (part_end i e x h)
 
 -- what `all` over the numbers of a part says of its cells
 all-blank-each : (xs ys : List ℕ) → length xs ≡ length ys → AllWithin (λ x. is_blank x ≡ true) ys 0 (length ys) → true ≡ all_blank (cells xs ys)

@@ -147,10 +147,6 @@ appends-over v at t r out far up = record {
   grows = up;
 }
 
--- past the end nothing fits
-pub appends-full : (v : List Cell) (at : ℕ) (c : Cell) (r : ℕ) → length v ≤ at → length v < r → at ≤ r → Appends v at v r (c ∷ [])
-appends-full v at c r out far up = appends-over v at (c ∷ []) r (omega arith) far up
-
 -- ---- a loop that appends: what is still to be written (rest) of all that is to be appended (whole)
 
 pub record Writing (v : List Cell) (at : ℕ) (v' : List Cell) (at' : ℕ) (rest whole : List Cell) : Type 0 where

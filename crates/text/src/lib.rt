@@ -1,7 +1,7 @@
 // Text with origins: what every pass reads and writes.
 #![tactic(auto)]
 
-ghost use Rattle.std.specs.Prelude.{◌≡◌, ◌+◌, ◌≤◌, max, min};
+ghost use Rattle.std.specs.Prelude.{◌≡◌, ◌+◌, ◌≤◌};
 ghost use Rattle.text.specs.Bounds.{number_most};
 
 pub mod area;
@@ -34,24 +34,4 @@ pub fn in_work(base: WorkAt, at: PostAt) -> WorkAt
     ensures { result.0 ≡ base.0 + at.0 }
 {
     WorkAt(base.0 + at.0)
-}
-
-// The greater of two counts.
-pub fn greater(a: usize, b: usize) -> usize
-    ensures { result ≡ max a b }
-{
-    if a < b {
-        return b;
-    }
-    a
-}
-
-// The smaller of two lengths.
-pub fn shorter(a: usize, b: usize) -> usize
-    ensures { result ≡ min a b }
-{
-    if a < b {
-        return a;
-    }
-    b
 }

@@ -62,28 +62,6 @@ fn equal_in_16(s: &[u8], i: usize, b: u8) -> u64
         .to_bitmask()
 }
 
-// Whether a byte stands among the 16 from i on.
-pub fn stands_in_16(s: &[u8], i: usize, b: u8) -> bool
-    requires { i + 16 ≤ length s.now }
-    ensures { result ≡ ltb (to_first (λ x. eqb x b) (drop i s.now)) 16 }
-{
-    equal_in_16(s, i, b) != 0
-}
-
-pub fn one_if(yes: bool) -> u32
-    ensures { (result ≡ cond yes 1 0) × (result ≤ 1) }
-{
-    u32::from(yes)
-}
-
-// How many of the 16 bytes from i on stand before the first b, which is among them.
-pub fn first_in_16(s: &[u8], i: usize, b: u8) -> usize
-    requires { (i + 16 ≤ length s.now) × (to_first (λ x. eqb x b) (drop i s.now) < 16) }
-    ensures { result ≡ to_first (λ x. eqb x b) (drop i s.now) }
-{
-    equal_in_16(s, i, b).trailing_zeros() as usize
-}
-
 // The place of the first byte b from a place on, or the end.
 pub fn next_byte(s: &[u8], at: PostAt, b: u8) -> PostAt
     requires { at.0 ≤ length s.now }
@@ -92,8 +70,9 @@ pub fn next_byte(s: &[u8], at: PostAt, b: u8) -> PostAt
     let mut i = at.0;
     // A while: what is left behind the last block is no block.
     while 16 <= s.len() - i {
-        if stands_in_16(s, i, b) {
-            return PostAt(i + first_in_16(s, i, b));
+        let found = equal_in_16(s, i, b);
+        if found != 0 {
+            return PostAt(i + found.trailing_zeros() as usize);
         }
         i += 16;
     }

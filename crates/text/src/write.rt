@@ -1,38 +1,10 @@
-// Writing cells into a lent pair of slices, one behind the other. A place past the end says that the text did not fit; it stays there.
-ghost use Rattle.std.specs.Prelude.{◌≡◌, [], ◌∷◌, map, ◌+◌, ◌≤◌, length, take};
-ghost use Rattle.text.specs.Cells.{cell, cells, origin_of, part, sign};
-ghost use Rattle.text.specs.Decimal.{decimal};
-ghost use Rattle.text.specs.Writes.{Appends, padded, LaidOut};
+// Laying out cells as a text and its origins, in a lent pair of slices.
+ghost use Rattle.std.specs.Prelude.{◌≡◌, [], map, ◌+◌, ◌≤◌, length, take};
+ghost use Rattle.text.specs.Cells.{cells, origin_of, part};
+ghost use Rattle.text.specs.Writes.{padded, LaidOut};
 
-use crate::area::put_in;
-use crate::cell::{RULE_SIGN, origin_of};
-use crate::{TextAt, WorkAt};
-
-// Appends one cell.
-pub fn put(buf: &mut [u8], nums: &mut [u32], at: TextAt, b: u8, x: u32) -> TextAt
-    ensures { Appends (cells buf.old nums.old) at.0 (cells buf.new nums.new) result.0 (cell b x ∷ []) }
-{
-    let end = buf.len().min(nums.len());
-    TextAt(put_in(buf, nums, end, WorkAt(at.0), b, x).0)
-}
-
-// Appends a byte that a rule writes and that is not blank.
-pub fn put_sign(buf: &mut [u8], nums: &mut [u32], at: TextAt, b: u8) -> TextAt
-    ensures { Appends (cells buf.old nums.old) at.0 (cells buf.new nums.new) result.0 (sign b ∷ []) }
-{
-    put(buf, nums, at, b, RULE_SIGN)
-}
-
-// Appends a number in decimal.
-pub fn put_decimal(n: u32, buf: &mut [u8], nums: &mut [u32], at: TextAt) -> TextAt
-    ensures { Appends (cells buf.old nums.old) at.0 (cells buf.new nums.new) result.0 (map sign (decimal n)) }
-{
-    if n < 10 {
-        return put_sign(buf, nums, at, b'0' + n as u8);
-    }
-    let front = put_decimal(n / 10, buf, nums, at);
-    put_sign(buf, nums, front, b'0' + (n % 10) as u8)
-}
+use crate::WorkAt;
+use crate::cell::origin_of;
 
 // Lays out the first n bytes of a source, with zeros behind them.
 fn lay_bytes(src: &[u8], n: usize, out: &mut [u8])

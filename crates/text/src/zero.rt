@@ -14,13 +14,3 @@ pub fn zero8(out: &mut [u8], from: TextAt)
         i += 1;
     }
 }
-
-pub fn zero32(out: &mut [u32], from: TextAt)
-    ensures { out.new ≡ cleared from.0 out.old }
-{
-    let mut i = from.0;
-    while i < out.len() {
-        out[i] = 0;
-        i += 1;
-    }
-}
