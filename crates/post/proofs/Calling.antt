@@ -16,87 +16,88 @@ use Rattle.lending.specs.Lent.{checked}
 use Rattle.lending.specs.declared.lent.Refusal.{Refusal}
 use Rattle.lending.specs.declared.lent.Refusal.TheVariants.{TooDeep, NoSpace}
 use Rattle.lending.specs.declared.lent.Lent.{Lent}
-use Rattle.lending.specs.declared.lent.Checked.{Checked}
-use Rattle.lending.specs.declared.lent.Checked.TheVariants as C
+use Rattle.lending.specs.declared.answer.Converted.{Converted}
+use Rattle.std.specs.Prelude.{Option, Some, None, Result, Ok, Err}
+use Rattle.std.specs.Option.{ok_or}
 use Rattle.text.proofs.Areas.{drop-take, area-length}
-use Rattle.text.proofs.Clearing.{laid-cleared, cells-bytes}
+use Rattle.text.proofs.Clearing.{laid-cleared, cleared-all, cells-bytes}
 use Rattle.text.proofs.Sources.{cells-taken, cells-dropped, back_is, front-is}
 use Rattle.text.proofs.Copying.{length-cells_of, bytes-cells_of}
 use Rattle.text.proofs.Writing.{holds_fits}
 use Rattle.losses.specs.declared.Loss.{Loss}
-use Rattle.losses.specs.Records.{records_lent}
 use Rattle.attribution_parts.specs.Attribution.{caption}
 use Rattle.quote_blocks.specs.Quotes as Quotes
 use Rattle.quote_lines.specs.Lines.{tags}
 use Rattle.quote_losses.specs.Losses.{quote_losses, loss_bytes, loss_records, ListsLosses}
-use Rattle.quotes.specs.Calls.{limited, Filled, Spelled}
+use Rattle.quotes.specs.Calls.{limited, Filled}
 use Rattle.list_blocks.specs.Blocks.{between}
 use Rattle.list_blocks.specs.Tags as ListTags
 use Rattle.list_blocks.specs.Tags.{pushes}
 use Rattle.list_blocks.specs.Lists.{lists, lists_need}
-use Rattle.list_steps.specs.Standing.{Written}
 use Rattle.post_steps.proofs.Pushing.{lost-pushes}
-use Rattle.list_steps.proofs.Needs.{lists-fits}
 use Rattle.mark_tags.specs.Marks.{marks}
 use Rattle.marks.specs.Untagged.{Untagged}
 use Rattle.chain.specs.Post.{marks_text, quoted_text, finished}
-use Rattle.post.specs.Calls.{listing, quoting, marked, converted, answered, answer_by, Called, Copied, losses_by, Noted, Ends, Numbered, Quotable}
-use Rattle.post.specs.declared.Posted.{Posted}
-use Rattle.post.specs.declared.Posted.TheVariants.{Done, Refused}
+use Rattle.lists.specs.Calls as Lists
+use Rattle.post.specs.Calls.{listing, quoting, marked, converted, answered, answer_by, Called, Copied, losses_by, Noted, Left, Ends, spaced, Quotable}
 use Rattle.chain.proofs.Chain.{finished-copied}
 use Rattle.post.proofs.MarksLength.{marks-short}
 
 -- ---- what a call leaves
 
-module _ {t : List Cell} {ws : List ℕ} {m k b : ℕ} {wanted l : Posted} {out plain words : List ℕ} where
-  pub ends-refused : (r : Refusal) → wanted ≡ Refused r → l ≡ Refused r → Filled [] [] m k b out plain words → Ends t ws m k b wanted l out plain words
-  ends-refused r e g f = rw (e, g) (record { answer = refl; filled = f })
+pub ends_as : {t : List Cell} {ws : List ℕ} {m k : ℕ} {wanted else l : Result Converted Refusal} {out plain words : List ℕ} → Ends t ws m k else l out plain words → wanted ≡ else
+    → Ends t ws m k wanted l out plain words
+ends_as p e = record { answer = p.answer ∙ sym e; left = p.left }
 
-  pub ends_as : {else : Posted} → Ends t ws m k b else l out plain words → wanted ≡ else → Ends t ws m k b wanted l out plain words
-  ends_as {else} p e = record { answer = p.answer ∙ sym e; filled = p.filled }
+-- an option that is looked into, `o.ok_or(r)?`
+pub or-refused : {A : Type 0} (o : Option A) {r e : Refusal} → ok_or o r ≡ Err e → (o ≡ None) × (r ≡ e)
+or-refused None h = (refl, cc)
+or-refused (Some a) h = let z : ◌≡◌ {A = ℕ} 0 1 = cc in absurd (omega arith)
 
-pub cleared-taken : (n : ℕ) (xs : List ℕ) (m : ℕ) → n ≤ length xs → length xs ≡ m → cleared n xs ≡ padded m (take n xs)
-cleared-taken n xs m h l = laid-cleared (take n xs) xs n m l (length-take-le n xs h) refl
+pub or-done : {A : Type 0} (o : Option A) (r : Refusal) {a : A} → ok_or o r ≡ Ok a → o ≡ Some a
+or-done None r h = let z : ◌≡◌ {A = ℕ} 0 1 = cc in absurd (omega arith)
+or-done (Some b) r h = cc
 
--- ---- lists
+-- ---- lengths with losses
 
-module _ (x : List Cell) (m a w : ℕ) where
-  pub listing-deep : ListTags.too_deep x ≡ true → listing x m a w ≡ Refused TooDeep
-  unfolding listing
-  listing-deep h = rw h
+abbrev pub with_losses : (a w : ℕ) → Result ℕ Refusal → Result Converted Refusal
+with_losses a w (Ok n) = Ok (record { size = n; losses = a; bytes = w })
+with_losses a w (Err r) = Err r
 
-  module _ (fine : ListTags.too_deep x ≡ false) where
-    pub listing_full : m < lists_need x → listing x m a w ≡ Refused NoSpace
-    unfolding listing
-    listing_full h = rw (fine, lt-ltb m (lists_need x) h)
+module _ {l wanted : Result ℕ Refusal} (a w : ℕ) (e : l ≡ wanted) where
+  pub with-refused : {r : Refusal} → l ≡ Err r → Err r ≡ with_losses a w wanted
+  with-refused f = rw (← e, f)
 
-    pub listing-done : {k b r : ℕ} {ws out plain words : List ℕ} {l : Posted} → lists_need x ≤ m → r ≡ length (lists x) → l ≡ Done r a w → LaidOut (lists x) m k out plain → words ≡ padded b ws
-        → Ends (lists x) ws m k b (listing x m a w) l out plain words
-    unfolding listing
-    listing-done {r = r} h e g laid ew = rw g (record { answer = rw (fine, le-ltb m (lists_need x) h, e); filled = record { laid = laid; spelled = ew } })
+  pub with-done : {n : ℕ} → l ≡ Ok n → Ok (record { size = n; losses = a; bytes = w }) ≡ with_losses a w wanted
+  with-done f = rw (← e, f)
 
--- what the pass on x writes from `base` on, laid out
-pub written-done : (x : List Cell) (base m a w r need : ℕ) (bs ns : List ℕ) {k b : ℕ} {ws out plain words : List ℕ} {l : Posted} → (ListTags.too_deep x ≡ false) × Written x base m bs ns r need
-    → l ≡ Done (r - base) a w → LaidOut (part base r (cells bs ns)) m k out plain → words ≡ padded b ws → Ends (lists x) ws m k b (listing x m a w) l out plain words
-written-done x base m a w r need bs ns {l = l} d g laid ew =
-    let p = d.1 in
-    let e : r - base ≡ length (lists x) = omega (arith, p.end) in
-    listing-done x m a w d.0 (omega (arith, p.needs, p.fits)) e g (rw p.text at laid) ew
+pub listing-with : (x : List Cell) (m a w : ℕ) → listing x m a w ≡ with_losses a w (Lists.converted x m)
+unfolding listing Lists.converted
+listing-with x m a w = by (ListTags.too_deep x) (ltb m (lists_need x))
+  where
+    by : (s t : Bool) → cond s (Err TooDeep) (cond t (Err NoSpace) (Ok (record { size = length (lists x); losses = a; bytes = w }))) ≡ with_losses a w (cond s (Err TooDeep) (cond t (Err NoSpace) (Ok (length (lists x)))))
+    by true t = refl
+    by false true = refl
+    by false false = refl
 
--- it ends within the room
-pub written-within : (x : List Cell) (base m : ℕ) {bs ns : List ℕ} {r need : ℕ} → Written x base m bs ns r need → (base ≤ r) × (r ≤ base + m)
-written-within x base m p = let f = lists-fits x in (omega (arith, p.end), omega (arith, p.end, p.needs, p.fits, f))
+pub quoting-with : (x : List Cell) (m a w : ℕ) → quoting x m a w ≡ with_losses a w (spaced x m)
+unfolding quoting spaced
+quoting-with x m a w = by (ltb m (Quotes.quotes_need caption x))
+  where
+    by : (s : Bool) → cond s (Err NoSpace) (listing (Quotes.quotes caption x) m a w) ≡ with_losses a w (cond s (Err NoSpace) (Lists.converted (Quotes.quotes caption x) m))
+    by true = refl
+    by false = listing-with (Quotes.quotes caption x) m a w
 
 -- ---- quotes
 
-module _ (x : List Cell) (m a w : ℕ) where
-  pub quoting-full : m < Quotes.quotes_need caption x → quoting x m a w ≡ Refused NoSpace
-  unfolding quoting
-  quoting-full h = rw (lt-ltb m (Quotes.quotes_need caption x) h)
+module _ (x : List Cell) (m : ℕ) where
+  pub spaced-full : m < Quotes.quotes_need caption x → Err NoSpace ≡ spaced x m
+  unfolding spaced
+  spaced-full h = rw (lt-ltb m (Quotes.quotes_need caption x) h)
 
-  pub quoting-done : Quotes.quotes_need caption x ≤ m → quoting x m a w ≡ listing (Quotes.quotes caption x) m a w
-  unfolding quoting
-  quoting-done h = rw (le-ltb m (Quotes.quotes_need caption x) h)
+  pub spaced-done : Quotes.quotes_need caption x ≤ m → Lists.converted (Quotes.quotes caption x) m ≡ spaced x m
+  unfolding spaced
+  spaced-done h = rw (le-ltb m (Quotes.quotes_need caption x) h)
 
 -- ---- a pair of slices
 
@@ -194,26 +195,21 @@ cells-kept k m r bs ns bs' ys h f l e =
 
 -- ---- losses
 
-pub marked_by : (x : List Cell) (m j b b' losses words : ℕ) (deep : Bool) → b' ≡ b → deep ≡ Quotes.too_deep x → losses ≡ length (quote_losses x) → words ≡ length (loss_bytes x)
-    → marked x m j b ≡ answer_by (limited deep (ltb j losses) (ltb b' words)) (quoting x m losses words)
-unfolding marked
-marked_by x m j b b' losses words deep eb d l w = rw (eb, d, l, w)
+module _ (x : List Cell) (m j b b' losses words : ℕ) (deep : Bool) (eb : b' ≡ b) (d : deep ≡ Quotes.too_deep x) (l : losses ≡ length (quote_losses x)) (w : words ≡ length (loss_bytes x)) where
+  marked_by : marked x m j b ≡ answer_by (limited deep (ltb j losses) (ltb b' words)) (quoting x m losses words)
+  unfolding marked
+  marked_by = rw (eb, d, l, w)
 
-pub answer-refused : (c : Checked) (r : Refusal) (else : Posted) → c ≡ C.Refused r → answer_by c else ≡ Refused r
-answer-refused c r else e = rw e
+  pub marked-refused : (r : Refusal) → limited deep (ltb j losses) (ltb b' words) ≡ Err r → Err r ≡ marked x m j b
+  marked-refused r e = sym (marked_by ∙ ap (λ (c : Result (Unit {0}) Refusal). answer_by c (quoting x m losses words)) e)
 
-pub answer-fine : (c : Checked) (else : Posted) → c ≡ C.Fine → answer_by c else ≡ else
-answer-fine c else e = rw e
-
--- the loss bytes that are left are those of the text
-pub ends-spelled : {t : List Cell} {m k b : ℕ} {wanted l : Posted} {out plain words : List ℕ} (ws : List ℕ) (x : List Cell) (losses size : ℕ)
-    → Spelled x ws losses size → Ends t (take size ws) m k b wanted l out plain words → Ends t (loss_bytes x) m k b wanted l out plain words
-ends-spelled ws x losses size w p = rw w.words-there at p
+  pub marked-fine : limited deep (ltb j losses) (ltb b' words) ≡ Ok tt → with_losses losses words (spaced x m) ≡ marked x m j b
+  marked-fine e = sym (marked_by ∙ ap (λ (c : Result (Unit {0}) Refusal). answer_by c (quoting x m losses words)) e ∙ quoting-with x m losses words)
 
 -- ---- marks
 
 module _ (post : List ℕ) (v : List Cell) (m n j b : ℕ) (h : Holds v n (marks_text post)) (size : length v ≡ m) where
-  pub converted-full : m < n → converted post m j b ≡ Refused NoSpace
+  pub converted-full : m < n → Err NoSpace ≡ converted post m j b
   unfolding converted
   converted-full far =
       let over : m < length (marks_text post) = elim (dec_le (length (marks_text post)) m) [ yes g ↦ absurd (let e = h.end (omega arith) in omega arith) | no g ↦ omega arith ] in
@@ -247,101 +243,92 @@ marks-same post bs ns m h hb hn u e =
     let f : take (length post) (cells bs ns) ≡ cells_of post = ap (λ (k : ℕ). take k (cells bs ns)) (sym (zero-add (length post))) ∙ e in
     rw t (record { end = λ _. sym l; text = λ _. take-take (length post) m (cells bs ns) h ∙ f; full = λ lt. absurd (omega (arith, lt, l, a, h)) })
 
-pub ends-finished : {m k j b : ℕ} {wanted l : Posted} {out plain numbers words : List ℕ} (post : List ℕ) (x : List Cell) → x ≡ marks_text post
-    → Ends (lists (Quotes.quotes caption x)) (loss_bytes x) m k b wanted l out plain words × Noted (loss_records post x) j l numbers
-    → Ends (finished post) (loss_bytes (marks_text post)) m k b wanted l out plain words × Noted (loss_records post (marks_text post)) j l numbers
+pub ends-finished : {m k j : ℕ} {wanted l : Result Converted Refusal} {out plain numbers words : List ℕ} (post : List ℕ) (x : List Cell) → x ≡ marks_text post
+    → Ends (lists (Quotes.quotes caption x)) (loss_bytes x) m k wanted l out plain words × Noted (loss_records post x) j l numbers
+    → Ends (finished post) (loss_bytes (marks_text post)) m k wanted l out plain words × Noted (loss_records post (marks_text post)) j l numbers
 unfolding finished quoted_text
 ends-finished post x e p = rw e at p
 
--- the answer's own equation
-pub ends-done : {t : List Cell} {ws rs : List ℕ} {m k j b : ℕ} {wanted else l : Posted} {out plain numbers words : List ℕ} → Ends t ws m k b else l out plain words × Noted rs j l numbers → wanted ≡ else
-    → Ends t ws m k b wanted l out plain words × Noted rs j l numbers
-ends-done p e = (ends_as p.0 e, p.1)
+-- ---- what is checked first
+
+pub answered-refused : (post : List ℕ) (lent : Lent) (j b : ℕ) (r : Refusal) → Err r ≡ checked post lent → Err r ≡ answered post lent j b
+unfolding answered
+answered-refused post lent j b r e = rw (← e)
+
+pub answered-fine : (post : List ℕ) (lent : Lent) (j b : ℕ) → Ok tt ≡ checked post lent → answered post lent j b ≡ converted post lent.out j b
+unfolding answered
+answered-fine post lent j b e = rw (← e)
 
 -- ---- the length that is answered
 
-done-size : {n a w n' a' w' : ℕ} → ◌≡◌ {A = Posted} (Done n a w) (Done n' a' w') → n ≡ n'
-done-size e = cc
+done-is : {c d : Converted} → ◌≡◌ {A = Result Converted Refusal} (Ok c) (Ok d) → c ≡ d
+done-is e = cc
 
-refused-done : {r : Refusal} {n a w : ℕ} {A : Type 0} → ◌≡◌ {A = Posted} (Refused r) (Done n a w) → A
+refused-done : {r : Refusal} {d : Converted} {A : Type 0} → ◌≡◌ {A = Result Converted Refusal} (Err r) (Ok d) → A
 refused-done e = let z : ◌≡◌ {A = ℕ} 0 1 = cc in absurd (omega arith)
 
-listing-size : (x : List Cell) (m a w n a' w' : ℕ) → listing x m a w ≡ Done n a' w' → n ≡ length (lists x)
+listing-size : (x : List Cell) (m a w : ℕ) (d : Converted) → listing x m a w ≡ Ok d → d.size ≡ length (lists x)
 unfolding listing
-listing-size x m a w n a' w' = by (ListTags.too_deep x) (ltb m (lists_need x))
+listing-size x m a w d = by (ListTags.too_deep x) (ltb m (lists_need x))
   where
-    by : (s t : Bool) → cond s (Refused TooDeep) (cond t (Refused NoSpace) (Done (length (lists x)) a w)) ≡ Done n a' w' → n ≡ length (lists x)
+    by : (s t : Bool) → cond s (Err TooDeep) (cond t (Err NoSpace) (Ok (record { size = length (lists x); losses = a; bytes = w }))) ≡ Ok d → d.size ≡ length (lists x)
     by true t e = refused-done e
     by false true e = refused-done e
-    by false false e = sym (done-size e)
+    by false false e = ap (λ (c : Converted). c.size) (sym (done-is e))
 
-quoting-size : (x : List Cell) (m a w n a' w' : ℕ) → quoting x m a w ≡ Done n a' w' → n ≡ length (lists (Quotes.quotes caption x))
+quoting-size : (x : List Cell) (m a w : ℕ) (d : Converted) → quoting x m a w ≡ Ok d → d.size ≡ length (lists (Quotes.quotes caption x))
 unfolding quoting
-quoting-size x m a w n a' w' = by (ltb m (Quotes.quotes_need caption x))
+quoting-size x m a w d = by (ltb m (Quotes.quotes_need caption x))
   where
-    by : (s : Bool) → cond s (Refused NoSpace) (listing (Quotes.quotes caption x) m a w) ≡ Done n a' w' → n ≡ length (lists (Quotes.quotes caption x))
+    by : (s : Bool) → cond s (Err NoSpace) (listing (Quotes.quotes caption x) m a w) ≡ Ok d → d.size ≡ length (lists (Quotes.quotes caption x))
     by true e = refused-done e
-    by false e = listing-size (Quotes.quotes caption x) m a w n a' w' e
+    by false e = listing-size (Quotes.quotes caption x) m a w d e
 
-by_size : (c : Checked) (else : Posted) (n a w k : ℕ) → (else ≡ Done n a w → n ≡ k) → answer_by c else ≡ Done n a w → n ≡ k
-by_size (C.Refused r) else n a w k f e = refused-done e
-by_size C.Fine else n a w k f e = f e
+by_size : (c : Result (Unit {0}) Refusal) (else : Result Converted Refusal) (d : Converted) (k : ℕ) → (else ≡ Ok d → d.size ≡ k) → answer_by c else ≡ Ok d → d.size ≡ k
+by_size (Err r) else d k f e = refused-done e
+by_size (Ok u) else d k f e = f e
 
-marked-size : (x : List Cell) (m j b n a w : ℕ) → marked x m j b ≡ Done n a w → n ≡ length (lists (Quotes.quotes caption x))
+marked-size : (x : List Cell) (m j b : ℕ) (d : Converted) → marked x m j b ≡ Ok d → d.size ≡ length (lists (Quotes.quotes caption x))
 unfolding marked
-marked-size x m j b n a w = by_size (limited (Quotes.too_deep x) (ltb j (length (quote_losses x))) (ltb b (length (loss_bytes x)))) (quoting x m (length (quote_losses x)) (length (loss_bytes x))) n a w (length (lists (Quotes.quotes caption x))) (quoting-size x m (length (quote_losses x)) (length (loss_bytes x)) n a w)
+marked-size x m j b d = by_size (limited (Quotes.too_deep x) (ltb j (length (quote_losses x))) (ltb b (length (loss_bytes x)))) (quoting x m (length (quote_losses x)) (length (loss_bytes x))) d (length (lists (Quotes.quotes caption x))) (quoting-size x m (length (quote_losses x)) (length (loss_bytes x)) d)
 
-converted-size : (post : List ℕ) (m j b n a w : ℕ) → converted post m j b ≡ Done n a w → n ≡ length (finished post)
+converted-size : (post : List ℕ) (m j b : ℕ) (d : Converted) → converted post m j b ≡ Ok d → d.size ≡ length (finished post)
 unfolding converted finished quoted_text
-converted-size post m j b n a w = by (ltb m (length (marks_text post)))
+converted-size post m j b d = by (ltb m (length (marks_text post)))
   where
-    by : (s : Bool) → cond s (Refused NoSpace) (marked (marks_text post) m j b) ≡ Done n a w → n ≡ length (lists (Quotes.quotes caption (marks_text post)))
+    by : (s : Bool) → cond s (Err NoSpace) (marked (marks_text post) m j b) ≡ Ok d → d.size ≡ length (lists (Quotes.quotes caption (marks_text post)))
     by true e = refused-done e
-    by false e = marked-size (marks_text post) m j b n a w e
+    by false e = marked-size (marks_text post) m j b d e
 
-answered-size : (post : List ℕ) (lent : Lent) (j b n a w : ℕ) → answered post lent j b ≡ Done n a w → n ≡ length (finished post)
+answered-size : (post : List ℕ) (lent : Lent) (j b : ℕ) (d : Converted) → answered post lent j b ≡ Ok d → d.size ≡ length (finished post)
 unfolding answered
-answered-size post lent j b n a w = by_size (checked post lent) (converted post lent.out j b) n a w (length (finished post)) (converted-size post lent.out j b n a w)
+answered-size post lent j b d = by_size (checked post lent) (converted post lent.out j b) d (length (finished post)) (converted-size post lent.out j b d)
 
 -- ---- the losses of an answer
 
-pub refused-noted : (rs : List ℕ) (j : ℕ) (l : Posted) (r : Refusal) (numbers : List ℕ) → l ≡ Refused r → Noted rs j l numbers
-refused-noted rs j l r numbers e = rw e (record { room = omega arith; few = omega arith; there = refl })
-
-done-losses : {n a w n' a' w' : ℕ} → ◌≡◌ {A = Posted} (Done n a w) (Done n' a' w') → a' ≡ a
-done-losses e = cc
-
-quoting-losses : (x : List Cell) (m a w n a' w' : ℕ) → quoting x m a w ≡ Done n a' w' → a' ≡ a
-unfolding quoting listing
-quoting-losses x m a w n a' w' = by (ltb m (Quotes.quotes_need caption x)) (ListTags.too_deep (Quotes.quotes caption x)) (ltb m (lists_need (Quotes.quotes caption x)))
-  where
-    by : (s t u : Bool) → cond s (Refused NoSpace) (cond t (Refused TooDeep) (cond u (Refused NoSpace) (Done (length (lists (Quotes.quotes caption x))) a w))) ≡ Done n a' w' → a' ≡ a
-    by true t u e = refused-done e
-    by false true u e = refused-done e
-    by false false true e = refused-done e
-    by false false false e = done-losses e
+pub refused-noted : (rs : List ℕ) (j : ℕ) (r : Refusal) (numbers : List ℕ) → Noted rs j (Err r) numbers
+refused-noted rs j r numbers = record { room = omega arith; few = omega arith; there = refl }
 
 -- a text of n bytes has no more losses
 pub few-losses : {losses : ℕ} (n : ℕ) (out : List ℕ) → n ≤ length out → losses ≤ length (take n out) → losses ≤ n
 few-losses n out h l = let e = length-take-le n out h in omega (arith, l, e)
 
--- the numbers of the records stand in front
-module _ (rs : List ℕ) (j losses : ℕ) (ns : List ℕ) (few : losses ≤ j) (there : take (5 * losses) ns ≡ rs) (room : 5 * losses ≤ length ns) where
-  pub quoting-noted : (x : List Cell) (m w : ℕ) (l : Posted) → l ≡ quoting x m losses w → Noted rs j l ns
-  quoting-noted x m w (Refused r) e = refused-noted rs j (Refused r) r ns refl
-  quoting-noted x m w (Done n a w') e =
-      let f = quoting-losses x m losses w n a w' (sym e) in
-      record { room = omega (arith, f, room); few = omega (arith, f, few); there = ap (λ (i : ℕ). take (5 * i) ns) f ∙ there }
-
-pub noted-longer : (rs : List ℕ) (j : ℕ) (l : Posted) (ns rest : List ℕ) → Noted rs j l ns → Noted rs j l (ns ++ rest)
+pub noted-longer : (rs : List ℕ) (j : ℕ) (l : Result Converted Refusal) (ns rest : List ℕ) → Noted rs j l ns → Noted rs j l (ns ++ rest)
 noted-longer rs j l ns rest p =
     let z = length-append ns rest in
     record { room = omega (arith, z, p.room); few = p.few; there = take-append-le (5 * losses_by l) ns rest p.room ∙ p.there }
 
--- the records are filled from the numbers
-pub called : (post : List ℕ) (m k j b w n : ℕ) (r : Posted) (out plain numbers words : List ℕ) (records : List Loss) → Numbered post m k j b w n r out plain numbers words
-    → records ≡ records_lent j (take (5 * losses_by r) numbers) → Called post m k j b w n r out plain records words
-called post m k j b w n r out plain numbers words records c e = record { answer = c.0.answer; filled = c.0.filled; listed = e ∙ ap (records_lent j) c.1.there }
+-- ---- what the call leaves
+
+-- zeros are written behind the loss bytes
+pub filled-done : (d : Converted) (words : List ℕ) {t : List Cell} {ws : List ℕ} {m k b : ℕ} {out plain words' : List ℕ} → Left t ws m k (Ok d) out plain words → length words ≡ b → words' ≡ cleared d.bytes words
+    → Filled t ws m k b out plain words'
+filled-done d words {ws = ws} {b = b} p l c =
+    let e = length-take-le d.bytes words p.1.0 in
+    record { laid = p.0; spelled = c ∙ laid-cleared ws words d.bytes b l (sym (ap length p.1.1) ∙ e) p.1.1 }
+
+pub filled-none : (words : List ℕ) {m k b : ℕ} {out plain words' : List ℕ} → LaidOut [] m k out plain → length words ≡ b → words' ≡ cleared 0 words → Filled [] [] m k b out plain words'
+filled-none words {b = b} p l c = record { laid = p; spelled = c ∙ cleared-all words ∙ ap (λ (n : ℕ). padded n []) l }
 
 -- ---- demand 3
 
@@ -349,13 +336,16 @@ front : (m : ℕ) (xs : List ℕ) → take (length xs) (padded m xs) ≡ xs
 unfolding padded
 front m xs = take_at xs (replicate (m - length xs) 0) (length xs) refl
 
-pub copied : (post : List ℕ) (lent : Lent) (k j b : ℕ) (r : Posted) {ws out plain words : List ℕ}
-    → Ends (finished post) ws lent.out k b (answered post lent j b) r out plain words → Copied post r out plain
-copied post lent k j b (Refused r) p = tt
-copied post lent k j b (Done n a w) {ws} {out} {plain} p =
-    let e : n ≡ length (finished post) = answered-size post lent j b n a w (sym p.answer) in
-    let o : take n out ≡ bytes (finished post) =
-    ap (take n) p.filled.laid.text ∙ ap (λ (i : ℕ). take i (padded lent.out (bytes (finished post)))) (e ∙ sym (length-map (finished post) (λ (c : Cell). c.byte))) ∙ front lent.out (bytes (finished post)) in
-    let g : take n plain ≡ origins (finished post) =
-    ap (take n) p.filled.laid.from ∙ ap (λ (i : ℕ). take i (padded k (origins (finished post)))) (e ∙ sym (length-map (finished post) (λ (c : Cell). c.origin))) ∙ front k (origins (finished post)) in
+copied : (post : List ℕ) (m k j b w n : ℕ) (r : Result Converted Refusal) {out plain words : List ℕ} {records : List Loss} → Called post m k j b w n r out plain records words → Copied post r out plain
+copied post m k j b w n (Err r) p = tt
+copied post m k j b w n (Ok d) {out} {plain} p =
+    let e : d.size ≡ length (finished post) = answered-size post _ j b d (sym p.answer) in
+    let o : take d.size out ≡ bytes (finished post) =
+    ap (take d.size) p.filled.laid.text ∙ ap (λ (i : ℕ). take i (padded m (bytes (finished post)))) (e ∙ sym (length-map (finished post) (λ (c : Cell). c.byte))) ∙ front m (bytes (finished post)) in
+    let g : take d.size plain ≡ origins (finished post) =
+    ap (take d.size) p.filled.laid.from ∙ ap (λ (i : ℕ). take i (padded k (origins (finished post)))) (e ∙ sym (length-map (finished post) (λ (c : Cell). c.origin))) ∙ front k (origins (finished post)) in
     rw (o, g) (finished-copied post)
+
+pub with-copied : {post : List ℕ} {m k j b w n : ℕ} {r : Result Converted Refusal} {out plain words : List ℕ} {records : List Loss} → Called post m k j b w n r out plain records words
+    → Called post m k j b w n r out plain records words × Copied post r out plain
+with-copied {post} {m} {k} {j} {b} {w} {n} {r} p = (p, copied post m k j b w n r p)

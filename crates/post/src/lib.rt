@@ -2,38 +2,31 @@
 #![tactic(auto)]
 
 ghost use Rattle.std.specs.Prelude.{◌≡◌, ◌+◌, ◌*◌, ◌≤◌, length, take};
-ghost use Rattle.text.specs.Bounds.{text_most, out_most, Room, number_most};
+ghost use Rattle.text.specs.Bounds.{text_most, out_most, Room};
 ghost use Rattle.text.specs.Cells.{cells};
 ghost use Rattle.text.specs.Writes.{Holds};
 ghost use Rattle.chain.specs.Post.{marks_text};
-ghost use Rattle.post.specs.Calls.{losses_by, Called, Copied, LostIn, Marked, Finishes, Converts, Numbered};
+ghost use Rattle.post.specs.Calls.{Called, Copied, LostIn, Marked, Finishes, Numbered};
 
-use attribution_losses::loss::Counts;
-use leave::refuse;
-use lending::lent::{Checked, Lent, Refusal, Spans, check};
+use lending::answer::{Converted, losses_by};
+use lending::lent::{Lent, Refusal, check};
 use listed::write_unquoted;
 use losses::{Loss, fill};
 use marks::pass::marks_pass;
 use marks::untagged::is_untagged;
+use post_steps::front::move_front;
 use post_steps::plain::no_quotes;
 use quote_lines::search::read_lines;
 use quote_losses::loss::{Listed, list_losses};
-use quoted::write_noted;
+use quoted::write_quotes;
 use quotes::refusal_of;
 use text::WorkAt;
 use text::bounds::{numbers_size, work_size};
 use text::source::set_cells;
+use text::write::lay_nothing;
 
-pub mod leave;
-pub mod listed;
-pub mod quoted;
-
-// The lengths of the text and of the loss bytes, with the number of losses between; or why there is no text.
-#[derive(Clone, Copy)]
-pub enum Posted {
-    Done(usize, usize, usize),
-    Refused(Refusal),
-}
+mod listed;
+mod quoted;
 
 // Lists the losses of the marks text, the first k work bytes, with lines in the post, and counts how deep the quotes stand. The post is masked in the
 // work bytes from m on; the numbers of the records stand at the front of the numbers, for five of which there is room for each byte of the post.
@@ -63,7 +56,7 @@ fn list_lost(
 }
 
 // Losses, quotes and lists of the marks text of a post, the first k cells, which are no more than the post has bytes. The numbers of the records stand
-// behind the areas of the passes.
+// behind the areas of the passes, and are moved to the front.
 fn convert_quoted(
     post: &[u8],
     k: usize,
@@ -73,31 +66,23 @@ fn convert_quoted(
     out: &mut [u8],
     origins: &mut [u32],
     loss_bytes: &mut [u8],
-) -> Posted
+) -> Result<Converted, Refusal>
     requires { Marked post.now k work.old numbers.old out.old origins.old }
     ensures { Finishes post.now (take k (cells work.old numbers.old)) lent out.old origins.old loss_bytes.old result out.new origins.new numbers.new loss_bytes.new }
 {
     let m = out.len();
     let first = work_size(post.len(), m);
-    let c = list_lost(post, k, m, work, &mut numbers[first..], loss_bytes);
-    let losses = c.losses;
-    let bytes = c.bytes;
-    let many = lent < losses;
-    let long = loss_bytes.len() < bytes;
-    let refused = refusal_of(c.deep, many, long);
-    match refused {
-        Checked::Refused(r) => refuse(r, out, origins, loss_bytes),
-        Checked::Fine => write_noted(
-            k,
-            WorkAt(first),
-            Counts { losses, bytes },
-            work,
-            numbers,
-            out,
-            origins,
-            loss_bytes,
-        ),
-    }
+    let lost = list_lost(post, k, m, work, &mut numbers[first..], loss_bytes);
+    let losses = lost.counts.losses;
+    let bytes = lost.counts.bytes;
+    refusal_of(lost.deep, lent < losses, loss_bytes.len() < bytes)?;
+    let size = write_quotes(k, WorkAt(first), losses, work, numbers, out, origins)?;
+    move_front(numbers, first, 5 * losses);
+    Ok(Converted {
+        size,
+        losses,
+        bytes,
+    })
 }
 
 // The same, for any marks text. Where no quote stands in it there are no losses, and no line of the post is looked for.
@@ -110,13 +95,18 @@ fn convert_marked(
     out: &mut [u8],
     origins: &mut [u32],
     loss_bytes: &mut [u8],
-) -> Posted
+) -> Result<Converted, Refusal>
     requires { Marked post.now k work.old numbers.old out.old origins.old }
     ensures { Finishes post.now (take k (cells work.old numbers.old)) lent out.old origins.old loss_bytes.old result out.new origins.new numbers.new loss_bytes.new }
 {
     if no_quotes(&work[..k]) {
         let table = WorkAt(work_size(post.len(), out.len()));
-        return write_unquoted(k, table, work, numbers, out, origins, loss_bytes);
+        let size = write_unquoted(k, table, work, numbers, out, origins)?;
+        return Ok(Converted {
+            size,
+            losses: 0,
+            bytes: 0,
+        });
     }
     convert_quoted(post, k, lent, work, numbers, out, origins, loss_bytes)
 }
@@ -127,102 +117,49 @@ fn mark_post(post: &[u8], m: usize, work: &mut [u8], numbers: &mut [u32]) -> Wor
     ensures { Holds (take m (cells work.new numbers.new)) result.0 (marks_text post.now) }
 {
     let n = post.len();
-    if n <= m {
-        if is_untagged(post) {
-            set_cells(post, work, numbers, WorkAt(0));
-            return WorkAt(n);
-        }
+    if n <= m && is_untagged(post) {
+        set_cells(post, work, numbers, WorkAt(0));
+        return WorkAt(n);
     }
     set_cells(post, work, numbers, WorkAt(m));
     marks_pass(work, numbers, n, WorkAt(m), m)
 }
 
-// Converts a post that is right, in memory that is large enough.
+// Converts a post, where `lent` records are lent; nothing is cleared. The losses are listed as plain
+// numbers.
 fn convert(
     post: &[u8],
-    lent: usize,
-    work: &mut [u8],
-    numbers: &mut [u32],
-    out: &mut [u8],
-    origins: &mut [u32],
-    loss_bytes: &mut [u8],
-) -> Posted
-    requires { (Room (length post.now) (length out.old) (length work.old) (length numbers.old) × (length out.old ≤ length origins.old)) × (length numbers.old ≤ number_most) }
-    ensures { Converts post.now lent out.old origins.old loss_bytes.old result out.new origins.new numbers.new loss_bytes.new }
-{
-    let z = mark_post(post, out.len(), work, numbers);
-    let n = z.0;
-    if out.len() < n {
-        return refuse(Refusal::NoSpace, out, origins, loss_bytes);
-    }
-    convert_marked(post, n, lent, work, numbers, out, origins, loss_bytes)
-}
-
-// Lends the conversion as many numbers as document 01 asks for: more than a `u32` can count may be lent.
-fn convert_in(
-    post: &[u8],
-    lent: usize,
-    work: &mut [u8],
-    numbers: &mut [u32],
-    out: &mut [u8],
-    origins: &mut [u32],
-    loss_bytes: &mut [u8],
-) -> Posted
-    requires { Room (length post.now) (length out.old) (length work.old) (length numbers.old) × (length out.old ≤ length origins.old) }
-    ensures { Converts post.now lent out.old origins.old loss_bytes.old result out.new origins.new numbers.new loss_bytes.new }
-{
-    let used = numbers_size(post.len(), out.len());
-    convert(
-        post,
-        lent,
-        work,
-        &mut numbers[..used],
-        out,
-        origins,
-        loss_bytes,
-    )
-}
-
-// A whole post, where `lent` records are lent: document 01's refusals 1 to 4, then marks 6, quotes 5, 7, 8, 6, lists 5, 6. The losses are listed as
-// plain numbers.
-fn convert_listed(
-    post: &[u8],
     out: &mut [u8],
     origins: &mut [u32],
     lent: usize,
     loss_bytes: &mut [u8],
     work: &mut [u8],
     numbers: &mut [u32],
-) -> Posted
+) -> Result<Converted, Refusal>
     ensures { Numbered post.now (length out.old) (length origins.old) lent (length loss_bytes.old) (length work.old) (length numbers.old) result out.new origins.new numbers.new loss_bytes.new }
 {
-    let checked = check(
+    let m = out.len();
+    check(
         post,
         Lent {
-            out: out.len(),
+            out: m,
             origins: origins.len(),
             work: work.len(),
             numbers: numbers.len(),
-            spans: Spans::Without,
+            spans: None,
         },
-    );
-    match checked {
-        Checked::Refused(r) => refuse(r, out, origins, loss_bytes),
-        Checked::Fine => convert_in(post, lent, work, numbers, out, origins, loss_bytes),
+    )?;
+    // More numbers may be lent than a `u32` can count.
+    let numbers = &mut numbers[..numbers_size(post.len(), m)];
+    let k = mark_post(post, m, work, numbers).0;
+    if m < k {
+        return Err(Refusal::NoSpace);
     }
+    convert_marked(post, k, lent, work, numbers, out, origins, loss_bytes)
 }
 
-// How many losses an answer comes with.
-fn losses_by(answer: Posted) -> usize
-    ensures { result ≡ losses_by answer }
-{
-    match answer {
-        Posted::Done(_, losses, _) => losses,
-        Posted::Refused(_) => 0,
-    }
-}
-
-// A whole post: document 01's refusals 1 to 4, then marks 6, quotes 5, 7, 8, 6, lists 5, 6. Demand 3 is the second part of its promise.
+// A whole post: document 01's refusals 1 to 4, then marks 6, quotes 5, 7, 8, 6, lists 5, 6. Where one applies, all that is lent for the result is zero.
+// Demand 3 is the second part of the promise.
 pub fn bbcode_to_carve(
     post: &[u8],
     out: &mut [u8],
@@ -231,12 +168,18 @@ pub fn bbcode_to_carve(
     loss_bytes: &mut [u8],
     work: &mut [u8],
     numbers: &mut [u32],
-) -> Posted
+) -> Result<Converted, Refusal>
     ensures { Called post.now (length out.old) (length origins.old) (length records.old) (length loss_bytes.old) (length work.old) (length numbers.old) result out.new origins.new records.new loss_bytes.new × Copied post.now result out.new origins.new }
 {
     let lent = records.len();
-    let answer = convert_listed(post, out, origins, lent, loss_bytes, work, numbers);
-    let count = losses_by(answer);
-    fill(records, numbers, count);
+    let answer = convert(post, out, origins, lent, loss_bytes, work, numbers);
+    fill(records, numbers, losses_by(answer));
+    match answer {
+        Ok(done) => loss_bytes[done.bytes..].fill(0),
+        Err(_) => {
+            lay_nothing(out, origins);
+            loss_bytes.fill(0);
+        }
+    }
     answer
 }

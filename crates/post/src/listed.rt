@@ -1,45 +1,37 @@
 // The last pass of the chain: lists.
-ghost use Rattle.std.specs.Prelude.{◌≤◌, length, take};
+ghost use Rattle.std.specs.Prelude.{length, take};
 ghost use Rattle.text.specs.Cells.{cells};
-ghost use Rattle.post.specs.Calls.{Listable, ListsLeft, UnquotedEnd};
+ghost use Rattle.post.specs.Calls.{Listable, ListsEnd, ListsLeft};
 
-use crate::Posted;
-use crate::leave::{lay_text, refuse};
-use attribution_losses::loss::Counts;
 use lending::lent::Refusal;
 use list_steps::close::Areas;
-use list_steps::pass::{Passed, list_pass};
+use list_steps::pass::list_pass;
 use post_steps::plain::no_lists;
 use text::WorkAt;
+use text::write::lay_part;
 
-// Lists of the cells from a up to e; the losses are listed. The contents stand behind these cells, then the block of a list, and the table of open
-// lists from `table` on; what stands in the numbers before it stays.
+// Lists of the cells from a up to e, laid out, and how long the text is. The contents stand behind these cells, then the block of a list, and the table of
+// open lists from `table` on; what stands in the numbers before it stays.
 pub fn write_lists(
     a: WorkAt,
     e: WorkAt,
     table: WorkAt,
-    losses: Counts,
     work: &mut [u8],
     numbers: &mut [u32],
     out: &mut [u8],
     origins: &mut [u32],
-    loss_bytes: &mut [u8],
-) -> Posted
-    requires { Listable a.0 e.0 table.0 work.old numbers.old out.old origins.old × (losses.bytes ≤ length loss_bytes.old) }
-    ensures { ListsLeft a.0 e.0 table.0 losses work.old numbers.old out.old origins.old loss_bytes.old result numbers.new out.new origins.new loss_bytes.new }
+) -> Result<usize, Refusal>
+    requires { Listable a.0 e.0 table.0 work.old numbers.old out.old origins.old }
+    ensures { ListsLeft a.0 e.0 table.0 work.old numbers.old out.old origins.old result numbers.new out.new origins.new }
 {
-    let end = WorkAt(e.0 + out.len());
     let areas = Areas {
         base: e,
-        end,
+        end: WorkAt(e.0 + out.len()),
         table,
     };
-    let passed = list_pass(a, e, areas, work, numbers);
-    match passed {
-        Passed::TooDeep => refuse(Refusal::TooDeep, out, origins, loss_bytes),
-        Passed::Full => refuse(Refusal::NoSpace, out, origins, loss_bytes),
-        Passed::Done(to, _) => lay_text(work, numbers, e, to, losses, out, origins, loss_bytes),
-    }
+    let passed = list_pass(a, e, areas, work, numbers)?;
+    lay_part(work, numbers, e, passed.end, out, origins);
+    Ok(passed.end.0 - e.0)
 }
 
 // Lists of the first k cells, in which no quote stands. Where lists leaves them as they are, they are laid out where they stand.
@@ -50,19 +42,13 @@ pub fn write_unquoted(
     numbers: &mut [u32],
     out: &mut [u8],
     origins: &mut [u32],
-    loss_bytes: &mut [u8],
-) -> Posted
+) -> Result<usize, Refusal>
     requires { Listable 0 k table.0 work.old numbers.old out.old origins.old }
-    ensures { UnquotedEnd (take k (cells work.old numbers.old)) out.old origins.old loss_bytes.old result out.new origins.new loss_bytes.new }
+    ensures { ListsEnd (take k (cells work.old numbers.old)) out.old origins.old result out.new origins.new }
 {
-    let none = Counts {
-        losses: 0,
-        bytes: 0,
-    };
-    let a = WorkAt(0);
-    let e = WorkAt(k);
     if no_lists(&work[..k]) {
-        return lay_text(work, numbers, a, e, none, out, origins, loss_bytes);
+        lay_part(work, numbers, WorkAt(0), WorkAt(k), out, origins);
+        return Ok(k);
     }
-    write_lists(a, e, table, none, work, numbers, out, origins, loss_bytes)
+    write_lists(WorkAt(0), WorkAt(k), table, work, numbers, out, origins)
 }

@@ -1,13 +1,28 @@
-use Rattle.std.proofs.Common.{ℕ, ◌*◌, length, take, ap, ◌∙◌}
+use mathlib.Core.Path.{sym, ap, ◌∙◌}
+use Prim.Native.Nat.{ℕ, ◌*◌}
+use lib.ListN.{length, take}
 use Rattle.losses.specs.Records.{records_lent}
-use Rattle.post.proofs.Calling.{called, copied}
+use Rattle.text.proofs.Clearing.{fill_cleared, fill_cleared_all}
+use Rattle.post.proofs.Calling.{filled-done, filled-none, with-copied}
 use Rattle.post.proofs.bbcode_to_carve.Goals as goal
 
-pub returns : goal.returns
-returns c =
-    let a = c.args in
-    let l = c.convert_listed-answer in
-    let n = length a.records.now in (
-      called _ _ _ _ _ _ _ _ _ _ l.new.numbers _ _ l.ensures (c.fill.ensures ∙ ap (λ (k : ℕ). records_lent n (take (5 * k) l.new.numbers)) c.losses_by-count.ensures),
-      copied _ _ _ _ _ _ l.ensures.0,
-    )
+pub returns-in-Ok : goal.returns-in-Ok
+returns-in-Ok c = let a = c.convert-answer in
+    let e = c.in-Ok.is in
+    let l = rw e at a.ensures.0.left in
+    let k = rw e at c.losses_by.ensures in
+    with-copied (record {
+      answer = sym e ∙ a.ensures.0.answer;
+      filled = filled-done c.in-Ok.done a.new.loss_bytes l a.auto.loss_bytes (fill_cleared _ _ _ l.1.0 c.fill-in-Ok.ensures.after);
+      listed = c.fill.ensures ∙ ap (λ (n : ℕ). records_lent (length c.args.records.now) (take (5 * n) a.new.numbers)) k ∙ ap (records_lent (length c.args.records.now)) (rw e at a.ensures.1.there);
+    })
+
+pub returns-in-Err : goal.returns-in-Err
+returns-in-Err c = let a = c.convert-answer in
+    let e = c.in-Err.is in
+    let k = rw e at c.losses_by.ensures in
+    rw e (with-copied (record {
+      answer = sym e ∙ a.ensures.0.answer;
+      filled = filled-none a.new.loss_bytes (rw (a.auto.out, a.auto.origins) at c.lay_nothing.ensures) a.auto.loss_bytes (fill_cleared_all _ _ c.fill-in-Err.ensures.after);
+      listed = c.fill.ensures ∙ ap (λ (n : ℕ). records_lent (length c.args.records.now) (take (5 * n) a.new.numbers)) k;
+    }))

@@ -1,9 +1,10 @@
 use native.Mathlib.Omega.{arith}
-use mathlib.Core.Path.{sym}
+use mathlib.Core.Path.{sym, ◌∙◌}
 use Prim.Native.Nat.{◌≤◌}
 use lib.ListN.{length}
-use Rattle.post.proofs.Unchanged.{unquoted-finishes}
-use Rattle.post.proofs.Calling.{part-size}
+use Rattle.std.proofs.lemmas.Result.{err_from_is_err_and}
+use Rattle.post.proofs.Unchanged.{marked-none, unquoted-left, unquoted-noted}
+use Rattle.post.proofs.Calling.{part-size, with-refused, with-done, refused-noted}
 use Rattle.list_blocks.proofs.Pushes.{pushes-length}
 use Rattle.text.proofs.Clearing.{cells-bytes}
 use Rattle.text.proofs.Areas.{area-length}
@@ -39,13 +40,34 @@ write_unquoted-requires c = let x = c.args in
       small = M.small;
     }
 
+pub returns-in_err-size : goal.returns-in_err-size
+returns-in_err-size c = let x = c.args in
+    let M = c.requires in
+    let hb : x.k ≤ length x.work.now = omega (arith, M.near, M.room) in
+    let hn : x.k ≤ length x.numbers.now = omega (arith, M.near, M.room) in
+    let l = area-length x.work.now x.numbers.now x.k hb hn in
+    let t = marked-none (take x.k (cells x.work.now x.numbers.now)) (take x.k x.work.now) (length x.out.now) (cells-bytes x.k x.work.now x.numbers.now hb hn) (omega (arith, l, M.near.0)) (c.no_quotes.ensures c.if-no_quotes.true) x.lent (length x.loss_bytes.now) in
+    let r = err_from_is_err_and c.from_residual.result c.from_residual.ensures.1 in
+    rw (r.1, r.2) (record { answer = with-refused 0 0 c.write_unquoted.ensures.answer c.in_err-size.was ∙ t; left = tt }, refused-noted _ _ _ _)
+
 pub returns-then-no_quotes : goal.returns-then-no_quotes
 returns-then-no_quotes c = let x = c.args in
     let M = c.requires in
     let hb : x.k ≤ length x.work.now = omega (arith, M.near, M.room) in
     let hn : x.k ≤ length x.numbers.now = omega (arith, M.near, M.room) in
     let l = area-length x.work.now x.numbers.now x.k hb hn in
-    unquoted-finishes (take x.k (cells x.work.now x.numbers.now)) (take x.k x.work.now) (length x.out.now) (cells-bytes x.k x.work.now x.numbers.now hb hn) (omega (arith, l, M.near.0)) (c.no_quotes.ensures c.if-no_quotes.true) x.post.now x.lent _ c.write_unquoted.ensures
+    let y = take x.k (cells x.work.now x.numbers.now) in
+    let s = take x.k x.work.now in
+    let m = length x.out.now in
+    let e = cells-bytes x.k x.work.now x.numbers.now hb hn in
+    let near : length y ≤ m = omega (arith, l, M.near.0) in
+    let u = c.no_quotes.ensures c.if-no_quotes.true in (
+      record {
+        answer = with-done 0 0 c.write_unquoted.ensures.answer c.in_ok-size.was ∙ marked-none y s m e near u x.lent (length x.loss_bytes.now);
+        left = unquoted-left y s m e near u c.in_ok-size.size _ (rw c.in_ok-size.was at c.write_unquoted.ensures.laid);
+      },
+      unquoted-noted y s m e near u x.post.now x.lent _,
+    )
 
 pub convert_quoted-requires : goal.convert_quoted-requires
 convert_quoted-requires c = c.requires
