@@ -2,8 +2,7 @@
 --   day_counts a             the counts of an answer to a call for a day
 --   lists_number, lists_counts, marks_number, marks_counts   document 01's number (0: done) and the counts of an answer to a call for lists, for marks
 --   Countable ns            each of these numbers fits 32 bits
---   AttributionCountable a, QuotesCountable, PostCountable     those of an answer a do
---   AttributionReported a r cs, QuotesReported, PostReported   r comes back for an answer a, and `counts` is cs
+--   Reported a r cs         r comes back for an answer a to a call that lists losses, and `counts` is cs
 --   Reports number counts Called r cs   r comes back and `counts` is cs, as these say of the answer of which Called holds
 --   ListsReport ..          of a call for lists: what comes back, and what the lent slices then hold
 --   MarksReport ..          of a call for marks
@@ -13,65 +12,42 @@
 -- m, k: the lengths of the output and the origins; s: of the spans; j, b: of the records and the loss bytes; w, n: of the work bytes and the
 -- work numbers.
 -- Assumes nothing.
-use Rattle.std.specs.Prelude.{◌≡◌, ℕ, ◌≤◌, List, [], ◌∷◌}
-use Rattle.lending.specs.Lent.{number_of}
-use Rattle.day.specs.declared.Dated.{Dated}
-use Rattle.day.specs.declared.Dated.TheVariants.{Done, Refused}
-use Rattle.lists.specs.declared.Listed.{Listed}
-use Rattle.lists.specs.declared.Listed.TheVariants as L
+use Rattle.std.specs.Prelude.{◌≡◌, ℕ, ◌≤◌, List, [], ◌∷◌, Result, Ok, Err}
+use Rattle.lending.specs.Answer.{number_of_answer, counts_of_answer}
+use Rattle.lending.specs.declared.lent.Refusal.{Refusal}
+use Rattle.lending.specs.declared.answer.Converted.{Converted}
 use Rattle.lists.specs.Calls as Lists
 use Rattle.marks.specs.declared.Marked.{Marked}
-use Rattle.marks.specs.declared.Marked.TheVariants as M
 use Rattle.marks.specs.Calls as Marks
 use Rattle.losses.specs.declared.Loss.{Loss}
-use Rattle.attribution.specs.declared.Attributed.{Attributed}
 use Rattle.attribution.specs.Calls as Attribution
-use Rattle.quotes.specs.declared.Quoted.{Quoted}
-use Rattle.post.specs.declared.Posted.{Posted}
 use Rattle.quotes.specs.Calls as Quotes
 use Rattle.post.specs.Calls as Post
 
-abbrev pub day_counts : Dated → List ℕ
-day_counts Done = 10 ∷ 0 ∷ 0 ∷ []
-day_counts (Refused r) = 0 ∷ 0 ∷ 0 ∷ []
+abbrev pub day_counts : Result (Unit {0}) Refusal → List ℕ
+day_counts (Ok done) = 10 ∷ 0 ∷ 0 ∷ []
+day_counts (Err refusal) = 0 ∷ 0 ∷ 0 ∷ []
 
-abbrev pub lists_number : Listed → ℕ
-lists_number (L.Done size) = 0
-lists_number (L.Refused r) = number_of r
+abbrev pub lists_number : Result ℕ Refusal → ℕ
+lists_number a = number_of_answer a
 
-abbrev pub lists_counts : Listed → List ℕ
-lists_counts (L.Done size) = size ∷ 0 ∷ 0 ∷ []
-lists_counts (L.Refused r) = 0 ∷ 0 ∷ 0 ∷ []
+abbrev pub lists_counts : Result ℕ Refusal → List ℕ
+lists_counts (Ok size) = size ∷ 0 ∷ 0 ∷ []
+lists_counts (Err refusal) = 0 ∷ 0 ∷ 0 ∷ []
 
-abbrev pub marks_number : Marked → ℕ
-marks_number (M.Done size marks) = 0
-marks_number (M.Refused r) = number_of r
+abbrev pub marks_number : Result Marked Refusal → ℕ
+marks_number a = number_of_answer a
 
-abbrev pub marks_counts : Marked → List ℕ
-marks_counts (M.Done size marks) = size ∷ marks ∷ 0 ∷ []
-marks_counts (M.Refused r) = 0 ∷ 0 ∷ 0 ∷ []
+abbrev pub marks_counts : Result Marked Refusal → List ℕ
+marks_counts (Ok marked) = marked.size ∷ marked.spans ∷ 0 ∷ []
+marks_counts (Err refusal) = 0 ∷ 0 ∷ 0 ∷ []
 
 abbrev pub Countable : List ℕ → Type 0
 Countable [] = Unit {0}
 Countable (n ∷ ns) = (n ≤ 4294967295) × Countable ns
 
-abbrev pub AttributionReported : Attributed → (r : ℕ) → (cs : List ℕ) → Type 0
-AttributionReported a r cs = (r ≡ Attribution.number_of_answer a) × (cs ≡ Attribution.counts_of_answer a)
-
-abbrev pub QuotesReported : Quoted → (r : ℕ) → (cs : List ℕ) → Type 0
-QuotesReported a r cs = (r ≡ Quotes.number_of_answer a) × (cs ≡ Quotes.counts_of_answer a)
-
-abbrev pub PostReported : Posted → (r : ℕ) → (cs : List ℕ) → Type 0
-PostReported a r cs = (r ≡ Post.number_of_answer a) × (cs ≡ Post.counts_of_answer a)
-
-abbrev pub AttributionCountable : Attributed → Type 0
-AttributionCountable a = Countable (Attribution.counts_of_answer a)
-
-abbrev pub QuotesCountable : Quoted → Type 0
-QuotesCountable a = Countable (Quotes.counts_of_answer a)
-
-abbrev pub PostCountable : Posted → Type 0
-PostCountable a = Countable (Post.counts_of_answer a)
+abbrev pub Reported : Result Converted Refusal → (r : ℕ) → (cs : List ℕ) → Type 0
+Reported a r cs = (r ≡ number_of_answer a) × (cs ≡ counts_of_answer a)
 
 -- Called fixes the answer by an equation
 pub record Reports {A : Type 0} (number : A → ℕ) (counts : A → List ℕ) (Called : A → Type 0) (r : ℕ) (cs : List ℕ) : Type 0 where
@@ -88,12 +64,12 @@ MarksReport text m k s w n r out plain spans cs = Reports marks_number marks_cou
 
 abbrev pub AttributionReport : (text : List ℕ) (m k j b w n : ℕ) (r : ℕ) (out plain : List ℕ) (records : List Loss) (words cs : List ℕ) → Type 0
 AttributionReport text m k j b w n r out plain records words cs =
-    Reports Attribution.number_of_answer Attribution.counts_of_answer (λ a. Attribution.Called text m k j b w n a out plain records words) r cs
+    Reports number_of_answer counts_of_answer (λ a. Attribution.Called text m k j b w n a out plain records words) r cs
 
 abbrev pub QuotesReport : (text : List ℕ) (m k j b w n : ℕ) (r : ℕ) (out plain : List ℕ) (records : List Loss) (words cs : List ℕ) → Type 0
 QuotesReport text m k j b w n r out plain records words cs =
-    Reports Quotes.number_of_answer Quotes.counts_of_answer (λ a. Quotes.Called text m k j b w n a out plain records words) r cs
+    Reports number_of_answer counts_of_answer (λ a. Quotes.Called text m k j b w n a out plain records words) r cs
 
 abbrev pub PostReport : (text : List ℕ) (m k j b w n : ℕ) (r : ℕ) (out plain : List ℕ) (records : List Loss) (words cs : List ℕ) → Type 0
 PostReport text m k j b w n r out plain records words cs =
-    Reports Post.number_of_answer Post.counts_of_answer (λ a. Post.Called text m k j b w n a out plain records words × Post.Copied text a out plain) r cs
+    Reports number_of_answer counts_of_answer (λ a. Post.Called text m k j b w n a out plain records words × Post.Copied text a out plain) r cs

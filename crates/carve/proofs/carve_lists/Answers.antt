@@ -1,15 +1,14 @@
-use native.Mathlib.Omega.{arith}
-use mathlib.Core.Path.{refl, sym, ◌∙◌}
-use Rattle.carve.proofs.Bounds.{lists-small}
-use Rattle.carve.proofs.Reporting.{reports}
+use borrow.Author.Rules.{rules}
+use Rattle.carve.specs.Counts.{lists_counts}
+use Rattle.carve.proofs.Bounds.{lists-countable}
+use Rattle.carve.proofs.Reporting.{mapped-countable, mapped-reported, lists-same}
 use Rattle.carve.proofs.carve_lists.Goals as goal
 
-pub set_counts-requires : goal.set_counts-requires
-set_counts-requires c = let s = lists-small _ _ _ (sym c.convert_lists-listed.ensures.answer ∙ c.in-Done.is) in
-    (s, (omega arith, omega arith))
+pub report-requires : goal.report-requires
+report-requires c = let u = c.convert_lists-listed in
+    mapped-countable _ lists_counts lists-same u.result c.map-answer.result c.map-answer.ensures.cases (λ x y k. search rules) (lists-countable _ _ u.result u.ensures.answer)
 
-pub returns-in-Done : goal.returns-in-Done
-returns-in-Done c = reports _ c.in-Done.is refl c.set_counts.ensures c.convert_lists-listed.ensures
-
-pub returns-in-Refused : goal.returns-in-Refused
-returns-in-Refused c = reports _ c.in-Refused.is c.number_of.ensures c.set_counts-in-Refused.ensures c.convert_lists-listed.ensures
+pub returns : goal.returns
+returns c = let u = c.convert_lists-listed in
+    let p = mapped-reported _ lists_counts lists-same u.result c.map-answer.result c.map-answer.ensures.cases (λ x y k. search rules) c.report.ensures in
+    record { answer = u.result; returned = p.0; counted = p.1; called = u.ensures }

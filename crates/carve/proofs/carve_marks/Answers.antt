@@ -1,15 +1,14 @@
-use native.Mathlib.Omega.{arith}
-use mathlib.Core.Path.{refl, sym, ◌∙◌}
-use Rattle.carve.proofs.Bounds.{marks-small}
-use Rattle.carve.proofs.Reporting.{reports}
+use borrow.Author.Rules.{rules}
+use Rattle.carve.specs.Counts.{marks_counts}
+use Rattle.carve.proofs.Bounds.{marks-countable}
+use Rattle.carve.proofs.Reporting.{mapped-countable, mapped-reported, marks-same}
 use Rattle.carve.proofs.carve_marks.Goals as goal
 
-pub set_counts-requires : goal.set_counts-requires
-set_counts-requires c = let s = marks-small _ _ _ _ (sym c.convert_marks-marked.ensures.answer ∙ c.in-Done.is) in
-    (s.0, (s.1, omega arith))
+pub report-requires : goal.report-requires
+report-requires c = let u = c.convert_marks-marked in
+    mapped-countable _ marks_counts marks-same u.result c.map-answer.result c.map-answer.ensures.cases (λ x y k. search rules) (marks-countable _ _ u.result u.ensures.answer)
 
-pub returns-in-Done : goal.returns-in-Done
-returns-in-Done c = reports _ c.in-Done.is refl c.set_counts.ensures c.convert_marks-marked.ensures
-
-pub returns-in-Refused : goal.returns-in-Refused
-returns-in-Refused c = reports _ c.in-Refused.is c.number_of.ensures c.set_counts-in-Refused.ensures c.convert_marks-marked.ensures
+pub returns : goal.returns
+returns c = let u = c.convert_marks-marked in
+    let p = mapped-reported _ marks_counts marks-same u.result c.map-answer.result c.map-answer.ensures.cases (λ x y k. search rules) c.report.ensures in
+    record { answer = u.result; returned = p.0; counted = p.1; called = u.ensures }

@@ -1,5 +1,5 @@
 use Rattle.carve.proofs.Bounds.{post-countable}
 use Rattle.carve.proofs.carve_post.Goals as goal
 
-pub report_post-requires : goal.report_post-requires
-report_post-requires c = post-countable _ _ _ _ _ c.bbcode_to_carve-answer.ensures.0.answer
+pub report-requires : goal.report-requires
+report-requires c = post-countable _ _ _ _ _ c.bbcode_to_carve-answer.ensures.0.answer
