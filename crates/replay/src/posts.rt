@@ -1,102 +1,58 @@
 // The post of a case: `post=`, then its bytes, LF as `\n`, backslash as `\\`, and as `\xNN` a byte that no listing has.
-ghost use Rattle.std.specs.Prelude.{◌≡◌, ◌+◌, ◌≤◌, ◌<◌, length, take};
+ghost use Rattle.std.specs.Prelude.{◌<◌};
 
-use post_listing::list_thread;
+use post_listing::{POST_MOST, list_thread};
 use text::PostAt;
 use text::scan::begins_at;
 
-// `post=` and one byte more than a post may have: a longer one is refused, however long it is.
-const LINE_ROOM: usize = 1030;
+// What a post's line begins with.
+const KEY: &[u8] = b"post=";
 
-// More than a listing of a post can have.
-const LISTING_MOST: usize = 16384;
+// That and one byte more than a post may have: a longer one is refused, however long it is.
+const LINE_ROOM: usize = KEY.len() + POST_MOST + 1;
 
 // A hexadecimal digit in small letters.
 fn digit(b: u8) -> u8
     ensures { result < 16 }
 {
-    if b >= b'a' {
-        return (b - 87) % 16;
+    match b {
+        b'a'.. => (b - b'a' + 10) % 16,
+        _ => b % 16,
     }
-    b % 16
 }
 
-// How many bytes at a place stand for one.
-fn width(s: &[u8], i: usize) -> usize
-    requires { i < length s.now }
-    ensures result_nonzero { 0 < result }
-    ensures result_in_bounds { i + result ≤ length s.now }
-{
-    if s[i] != b'\\' {
-        return 1;
+// The first byte that a line stands for, and what is behind it.
+fn first_byte(s: &[u8]) -> Option<(u8, &[u8])> {
+    match s {
+        [] | [b'\n', ..] => None,
+        [b'\\', b'x', high, low, behind @ ..] => Some((16 * digit(*high) + digit(*low), behind)),
+        [b'\\', b'n', behind @ ..] => Some((b'\n', behind)),
+        [b'\\', b, behind @ ..] => Some((*b, behind)),
+        [b, behind @ ..] => Some((*b, behind)),
     }
-    let left = s.len() - i;
-    if left < 2 {
-        return 1;
-    }
-    if left < 4 {
-        return 2;
-    }
-    if s[i + 1] == b'x' {
-        return 4;
-    }
-    2
 }
 
-// The byte that they stand for.
-fn byte_of(s: &[u8], i: usize, width: usize) -> u8
-    requires width_nonzero { 0 < width }
-    requires width_in_bounds { i + width ≤ length s.now }
-{
-    if width == 1 {
-        return s[i];
+// The bytes that the line stands for that `s` begins with, as far as there is room.
+fn unescape<'a>(s: &[u8], room: &'a mut [u8]) -> &'a [u8] {
+    let mut rest = s;
+    for n in 0..room.len() {
+        let Some((b, behind)) = first_byte(rest) else {
+            return &room[..n];
+        };
+        room[n] = b;
+        rest = behind;
     }
-    if width == 4 {
-        return 16 * digit(s[i + 2]) + digit(s[i + 3]);
-    }
-    if s[i + 1] == b'n' {
-        return b'\n';
-    }
-    s[i + 1]
+    room
 }
 
-// Puts the bytes of the line that `s` begins with at the start of `out`, as far as there is room, and answers how many.
-fn unescape(s: &[u8], out: &mut [u8]) -> usize
-    ensures { (result ≤ length out.new) × (result ≡ length (take result out.new)) }
-{
-    let mut i: usize = 0;
-    let mut k: usize = 0;
-    while k < out.len() {
-        if i == s.len() {
-            return k;
-        }
-        if s[i] == b'\n' {
-            return k;
-        }
-        let w = width(s, i);
-        out[k] = byte_of(s, i, w);
-        i += w;
-        k += 1;
+// Lists the post whose line `s` begins with at the start of `buf`; None where there is no post.
+pub fn list_line<'a>(s: &[u8], buf: &'a mut [u8], nums: &mut [u32]) -> Option<&'a [u8]> {
+    let mut room = [0u8; LINE_ROOM];
+    let line = unescape(s, &mut room);
+    let post = line.get(KEY.len()..)?;
+    if !begins_at(line, PostAt(0), KEY) {
+        return None;
     }
-    k
-}
-
-// Lists the post whose line `s` begins with, at the start of `buf`, and answers how long the listing is: 0 where there is no post.
-pub fn list_line(s: &[u8], buf: &mut [u8], nums: &mut [u32]) -> usize
-    ensures { (result ≤ length buf.new) × (result ≡ length (take result buf.new)) }
-{
-    let mut line = [0u8; LINE_ROOM];
-    let n = unescape(s, &mut line);
-    if n < 5 {
-        return 0;
-    }
-    if !begins_at(&line[..n], PostAt(0), b"post=") {
-        return 0;
-    }
-    let end = list_thread(&line[5..n], buf, nums);
-    let size = end.0;
-    if size <= LISTING_MOST {
-        return size.min(buf.len());
-    }
-    0
+    let end = list_thread(post, buf, nums);
+    buf.get(..end.0)
 }

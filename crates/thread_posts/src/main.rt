@@ -2,17 +2,19 @@
 // of one that is too long.
 #![tactic(auto)]
 
-use post_listing::list_thread;
+use post_listing::{LISTING_MOST, POST_MOST, list_thread};
 use std::io;
 use std::io::Write;
 
+// The length of a post that is too long.
+const TOO_LONG: usize = POST_MOST + 1;
+
 fn print_listing<W: Write>(out: &mut W, post: &[u8]) -> io::Result<()> {
-    let mut buf = [0u8; 16384];
-    let mut nums = [0u32; 16384];
+    let mut buf = [0u8; LISTING_MOST];
+    let mut nums = [0u32; LISTING_MOST];
     let end = list_thread(post, &mut buf, &mut nums);
-    let size = end.0;
-    if size <= 16384 {
-        out.write_all(&buf[..size])?;
+    if let Some(listing) = buf.get(..end.0) {
+        out.write_all(listing)?;
     }
     Ok(())
 }
@@ -29,6 +31,5 @@ fn main(rt: HostRuntime) -> io::Result<()> {
         &mut out,
         b"[quote=Ann][quote=Bert;7]Which first?[/quote][list=1][*]estimate[*]seed[list][*]late[/list][/list][/quote]",
     )?;
-    let long = [97u8; 1025];
-    print_listing(&mut out, &long)
+    print_listing(&mut out, &[b'a'; TOO_LONG])
 }

@@ -1,9 +1,10 @@
-use Prim.Native.Nat.{◌-◌, ◌≤◌}
-use lib.ListN.{length}
+use Rattle.std.proofs.Common.{◌+◌, ◌≤◌, length}
 use Rattle.replay.proofs.replay.Given as goal
 
-abbrev pub invariant-loop-at : goal.invariant-loop-at
-invariant-loop-at g l = (l.equal ≤ l.cases) × (l.cases ≤ l.at) × (l.at ≤ length l.file)
-
-abbrev pub decreases-loop-at : goal.decreases-loop-at
-decreases-loop-at g l = length l.file - l.at
+abbrev pub invariant-loop-case : goal.invariant-loop-case
+invariant-loop-case g l = record {
+  can_next : (goal.iterator-loop-case g).can_next l.case-iterator;
+  is_finite : (goal.iterator-loop-case g).is_finite l.case-iterator;
+  equal : l.equal ≤ l.cases;
+  cases : l.cases + length l.case-iterator.0.now ≤ length l.file;
+}

@@ -1,19 +1,13 @@
-use native.Mathlib.Omega.{arith}
-use mathlib.Core.Path.{sym}
-use Prim.Native.Nat.{◌-◌}
-use lib.ListN.{length}
-use lib.Seq.{length-take-le}
-use Rattle.replay.proofs.Comparing.{same_none, other_last, same-last}
+use Rattle.std.proofs.Common.{Some, None, [], ◌∷◌}
+use Rattle.std.proofs.lemmas.Bool.Decides.{Decides-eqb}
+use Rattle.std.proofs.lemmas.Slice.Eq.{strip_suffix_is}
+use Rattle.replay.proofs.Comparing.{same_front, other_end}
 use Rattle.replay.proofs.cases.is_answer.Goals as goal
 
-pub returns-then-answer-eq0 : goal.returns-then-answer-eq0
-returns-then-answer-eq0 c = same_none _ c.args.listing.now 10 c.if-answer-eq0.true
+pub returns-in-Some : goal.returns-in-Some
+returns-in-Some c = let s = c.args.answer.now in
+    same_front s c.in-Some.front.now _ _ _ (strip_suffix_is Decides-eqb s _ (Some c.in-Some.front) c.in-Some.ensures.cases) c.eq.ensures
 
-pub returns-then-answer-last-ne10 : goal.returns-then-answer-last-ne10
-returns-then-answer-last-ne10 c = other_last _ c.args.listing.now 10 c.if-answer-eq0.false c.if-answer-last-ne10.true
-
-pub slice_bounds-is_same-end : goal.slice_bounds-is_same-end
-slice_bounds-is_same-end c = let x = c.args in sym (length-take-le (length x.answer.now - 1) x.answer.now (omega arith))
-
-pub returns : goal.returns
-returns c = same-last _ c.args.listing.now 10 c.if-answer-eq0.false c.if-answer-last-ne10.false c.is_same.ensures
+pub returns-in-None : goal.returns-in-None
+returns-in-None c = let s = c.args.answer.now in
+    other_end s c.args.listing.now (10 ∷ []) (strip_suffix_is Decides-eqb s (10 ∷ []) None c.in-None.ensures.cases)
