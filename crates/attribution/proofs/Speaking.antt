@@ -79,21 +79,35 @@ module _ (s : List ℕ) (w : Words) {at end : ℕ} (h : Spoken s at end w) where
 
 -- ---- the name
 
-module _ (s : List ℕ) (w : Words) (from size : ℕ) where
-  pub name-joined : size ≡ 0 → w.joined.0 ≤ w.past.0 → w.past.0 ≤ length s → NameAt s w from size w.joined.0 (w.joined.0 + (w.past.0 - w.joined.0))
+module _ (s : List ℕ) (w : Words) (from size : ℕ) {x : List ℕ} (e : x ≡ named (said w s) (cut w.joined.0 w.past.0 s) from size) where
+  pub name-joined : size ≡ 0 → w.joined.0 ≤ w.past.0 → w.past.0 ≤ length s → NameAt s w from size w.joined.0 (w.joined.0 + length x)
   unfolding named
   name-joined z h k =
-      let m : w.joined.0 + (w.past.0 - w.joined.0) ≡ w.past.0 = omega arith in
-      rw m (record { words = rw (eq-eqb size 0 z); order = h; inside = k; apart = λ at end f g. g })
+      let j : ℕ = w.joined.0 in
+      let v : x ≡ cut j w.past.0 s = e ∙ rw (eq-eqb size 0 z) in
+      let n : length x ≡ w.past.0 - j = ap length v ∙ cut-length j w.past.0 s k in
+      let m : j + length x ≡ w.past.0 = omega (arith, n, h) in
+      record {
+        words = ap (λ (i : ℕ). cut j i s) m ∙ sym v ∙ e;
+        order = omega arith;
+        inside = omega (arith, m, k);
+        apart = λ at end f g. apart_in j (j + length x) (omega arith) (omega (arith, m)) g;
+      }
 
-  pub name-field : (size ≡ 0 → ⊥) → w.from.0 ≤ w.to.0 → w.to.0 ≤ length s → from + size ≤ w.to.0 - w.from.0 → NameAt s w from size (w.from.0 + from) (w.from.0 + from + size)
+  pub name-field : (size ≡ 0 → ⊥) → w.from.0 ≤ w.to.0 → w.to.0 ≤ length s → from + size ≤ w.to.0 - w.from.0 → NameAt s w from size (w.from.0 + from) (w.from.0 + from + length x)
   unfolding named
-  name-field z h k le = record {
-    words = cut-cut w.from.0 w.to.0 from size s le ∙ rw (add-sub_cancel_left from size, ne_eqb size 0 z);
-    order = omega arith;
-    inside = omega arith;
-    apart = λ at end f g. apart_in (w.from.0 + from) (w.from.0 + from + size) (omega arith) (omega arith) f;
-  }
+  name-field z h k le =
+      let a : ℕ = w.from.0 in
+      let l = cut-length a w.to.0 s k in
+      let d = length-drop from (said w s) in
+      let v : x ≡ take size (drop from (said w s)) = e ∙ rw (ne_eqb size 0 z) in
+      let n : length x ≡ size = ap length v ∙ length-take-le size (drop from (said w s)) (omega (arith, l, d, le)) in
+      record {
+        words = ap (λ (m : ℕ). cut (a + from) (a + from + m) s) n ∙ cut-cut a w.to.0 from size s le ∙ ap (λ (m : ℕ). take m (drop from (said w s))) (add-sub_cancel_left from size) ∙ sym v ∙ e;
+        order = omega arith;
+        inside = omega (arith, n, le, h, k);
+        apart = λ at end f g. apart_in (a + from) (a + from + length x) (omega arith) (omega (arith, n, le, h)) f;
+      }
 
 -- ---- joined texts
 

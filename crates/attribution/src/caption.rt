@@ -11,7 +11,7 @@ ghost use Rattle.attribution_parts.specs.Parts.{parts};
 ghost use Rattle.attribution_parts.specs.Attribution.{is_day, within, caption, date as dateOf};
 ghost use Rattle.attribution_reading.specs.Places.{bytes};
 ghost use Rattle.attribution_reading.specs.Reads.{FieldAt, IdAt};
-ghost use Rattle.attribution_losses.specs.Captions.{gap};
+ghost use Rattle.attribution_losses.specs.Captions.{gap, named};
 ghost use Rattle.attribution_losses.specs.Lists.{Told};
 ghost use Rattle.attribution.specs.Spoken.{said, date_and_id, Spoken, NameAt};
 
@@ -31,21 +31,34 @@ pub struct Words {
     pub past: WorkAt,
 }
 
-// Where the name stands: where there is a name field its value, a part of the attribution; else the joined texts.
-fn name_at(words: Words, name: Extent) -> Extent
-    requires { ((words.from.0 ≤ words.to.0) × (words.joined.0 ≤ words.past.0)) × (name.from + name.size ≤ words.to.0 - words.from.0) }
-    ensures { (s : List ℕ) → words.to.0 ≤ length s → words.past.0 ≤ length s → NameAt s words name.from name.size result.from (result.from + result.size) }
+// The name: where there is a name field its value, a part of the attribution; else the joined texts.
+fn name<'a>(attribution: &'a [u8], joined: &'a [u8], value: Extent) -> &'a [u8]
+    requires { value.from + value.size ≤ length attribution.now }
+    ensures { result.now ≡ named attribution.now joined.now value.from value.size }
 {
-    if name.size == 0 {
-        Extent {
+    if value.size == 0 {
+        return joined;
+    }
+    value.of(attribution)
+}
+
+// Where the name stands: as long as the part that `name` hands out, which can't be held while the slice is written.
+fn name_at(source: &[u8], words: Words, value: Extent) -> Extent
+    requires { ((words.from.0 ≤ words.to.0) × ((words.to.0 ≤ length source.now) × ((words.joined.0 ≤ words.past.0) × (words.past.0 ≤ length source.now)))) × (value.from + value.size ≤ words.to.0 - words.from.0) }
+    ensures { NameAt source.now words value.from value.size result.from (result.from + result.size) }
+{
+    let attribution = &source[words.from.0..words.to.0];
+    let joined = &source[words.joined.0..words.past.0];
+    let size = name(attribution, joined, value).len();
+    if value.size == 0 {
+        return Extent {
             from: words.joined.0,
-            size: words.past.0 - words.joined.0,
-        }
-    } else {
-        Extent {
-            from: words.from.0 + name.from,
-            size: name.size,
-        }
+            size,
+        };
+    }
+    Extent {
+        from: words.from.0 + value.from,
+        size,
     }
 }
 
@@ -161,7 +174,7 @@ fn put_pieces(w: &mut Writer<'_>, words: Words, fields: Fields, day: bool, id: E
     requires { Spoken w.old.bytes.now w.old.at.0 w.old.end words × (Told (said words w.old.bytes.now) fields day × IdAt (said words w.old.bytes.now) id) }
     ensures { Wrote w.old w.new (written (caption (said words w.old.bytes.now))) }
 {
-    let name = name_at(words, fields.name.value);
+    let name = name_at(w.source(), words, fields.name.value);
     let more = is_dated(fields.date, fields.time) | (0 < id.size);
     w.put_within(name.from, name.from + name.size);
     put_gap(w, 0 < name.size, more);

@@ -1,3 +1,4 @@
+use native.Mathlib.Omega.{arith}
 use mathlib.Core.Path.{◌≡◌, sym, ap, subst, refl, ◌∙◌}
 use Prim.Native.Nat.{ℕ, ◌+◌}
 use native.Mathlib.Nat.{add-sub_cancel_left}
@@ -12,13 +13,18 @@ use Rattle.text.specs.Writes.{cut}
 use Rattle.text.specs.Ascii.{ascii}
 use Rattle.text.specs.Cells.{written}
 use Rattle.text.proofs.Writers.{wrote-as, wrote-then}
-use Rattle.attribution.proofs.Speaking.{cut-length, said-after, spoken-after}
+use Rattle.attribution.proofs.Speaking.{cut-length, said-length, said-after, spoken-after}
 use Rattle.attribution.proofs.Captioning.{caption-is}
 use Rattle.attribution.proofs.caption.put_pieces.Goals as goal
 
+pub name_at-name-requires : goal.name_at-name-requires
+name_at-name-requires c = let q = c.requires in
+    let l = said-length c.args.w.now.bytes.now c.args.words q.0 in
+    rw c.source.ensures ((q.0.order, (q.0.inside, (q.0.joined-order, q.0.joined-inside))), omega (arith, l, q.1.0.fields.name.inside))
+
 pub put_within-requires : goal.put_within-requires
 put_within-requires c = let q = c.requires.0 in
-    let n = c.name_at-name.ensures c.args.w.now.bytes.now q.inside q.joined-inside in
+    let n = rw c.source.ensures at c.name_at-name.ensures in
     (n.inside, n.apart _ _ q.apart q.joined-apart)
 
 pub put_rest-requires : goal.put_rest-requires
@@ -31,7 +37,7 @@ pub returns : goal.returns
 returns c = let a = c.args in
     let q = c.requires in
     let s = a.w.now.bytes.now in
-    let n = c.name_at-name.ensures s q.0.inside q.0.joined-inside in
+    let n = rw c.source.ensures at c.name_at-name.ensures in
     let i : ℕ = c.name_at-name.result.from in
     let z : ℕ = c.name_at-name.result.size in
     let p = wrote-then c.put_within.ensures c.put_gap.ensures in
