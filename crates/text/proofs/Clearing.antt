@@ -1,31 +1,15 @@
 -- Laws of clearing and of laying out a text. Assumes nothing.
 use mathlib.Core.Path.{◌≡◌, refl, ap, ◌∙◌}
-use Prim.Native.Nat.{ℕ, zero, suc, ◌+◌, ◌/◌, ◌≤◌, ◌<◌}
-use native.Mathlib.Nat.{zero-sub, suc-sub-suc, sub-zero, le_of_suc-le-suc, not-suc-le-zero}
-use native.Mathlib.Numerals.{add-one}
+use Prim.Native.Nat.{ℕ, zero, suc, ◌/◌, ◌≤◌}
+use native.Mathlib.Nat.{sub-zero, le_of_suc-le-suc, not-suc-le-zero}
 use Rattle.text.specs.Cells.{cells, bytes, origins}
 use mathlib.Core.List.{List, [], ◌∷◌, map}
-use lib.ListN.{length, take, drop, set, replicate, length-map}
-use lib.Seq.{take-nil, length-take-le}
+use lib.ListN.{length, take, drop, replicate, length-map}
+use lib.Seq.{length-take-le}
 use borrow.Rule.Slice.PartMut.{put_mid}
 use Rattle.std.proofs.Common.{◌-◌, arith, append-nil}
 use Rattle.std.proofs.lemmas.List.{length-drop, length-take, drop_all}
 use Rattle.text.specs.Writes.{cleared, padded}
-
-step : (i : ℕ) (xs : List ℕ) → i < length xs → cleared (suc i) (set xs i 0) ≡ cleared i xs
-unfolding cleared
-step i [] h = absurd (not-suc-le-zero h)
-step zero (x ∷ xs) h = rw (suc-sub-suc, sub-zero, sub-zero)
-step (suc i) (x ∷ xs) h = rw (suc-sub-suc, suc-sub-suc) (ap (λ (l : List ℕ). x ∷ l) (step i xs (le_of_suc-le-suc h)))
-
-pub cleared-step : (i : ℕ) (xs : List ℕ) → i < length xs → cleared (i + 1) (set xs i 0) ≡ cleared i xs
-cleared-step i xs h = rw add-one (step i xs h)
-
-pub cleared-done : (i : ℕ) (xs : List ℕ) → length xs ≤ i → xs ≡ cleared i xs
-unfolding cleared
-cleared-done i [] h = rw (take-nil, zero-sub)
-cleared-done zero (x ∷ xs) h = absurd (not-suc-le-zero h)
-cleared-done (suc i) (x ∷ xs) h = rw suc-sub-suc (ap (λ (l : List ℕ). x ∷ l) (cleared-done i xs (le_of_suc-le-suc h)))
 
 -- what `xs[a..].fill(0)` leaves, and what `xs.fill(0)` leaves: the last argument is the call's `ensures.after`, and `search (rules, fill_cleared)` finds it
 

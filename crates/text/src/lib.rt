@@ -14,7 +14,6 @@ pub mod source;
 pub mod trim;
 pub mod write;
 pub mod writer;
-pub mod zero;
 
 // A place in the post, or in the text that a pass reads.
 #[derive(Clone, Copy)]
