@@ -79,6 +79,7 @@ pub fn put_within(
 }
 
 // Appends the cells from a up to e of the same pair of slices: in blocks, where 15 cells more can be read behind them (`spare` can) and written.
+#[inline(always)]
 fn append_run(
     buf: &mut [u8],
     nums: &mut [u32],

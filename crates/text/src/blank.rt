@@ -151,8 +151,11 @@ fn number_run(s: &[u8], i: usize, n: usize, nums: &mut [u32])
 {
     let mut flags: [u8; 512] = [0; 512];
     set_flags(s, i, n, &mut flags);
+    // j is the place i + k as a u32, so that codes are made four at a time.
+    let mut j = i as u32;
     for k in 0..n {
-        nums[i + k] = post_code((i + k) as u32, u32::from(flags[k]));
+        nums[i + k] = post_code(j, u32::from(flags[k]));
+        j += 1;
     }
 }
 

@@ -1,8 +1,19 @@
 // Copying in blocks of 16 within a pair of slices: a run is copied with up to 15 cells behind its end, which the next run overwrites. A block
 // is read whole before it is written, so that it is moved in a few wide steps. Bytes and numbers are copied one after the other: a long text in
-// turns, block by block, was the slower way (docs/DECISIONS.md, "Speed").
+// turns, block by block, is slower (docs/DECISIONS.md, "Speed").
 ghost use Rattle.std.specs.Prelude.{◌≡◌, ◌+◌, ◌-◌, ◌≤◌, length, take, drop};
+ghost use Rattle.std.proofs.Math.Seq.{paste};
 ghost use Rattle.text.specs.Writes.{Apart, Pasted};
+
+// Writes 16 elements from a place on, one by one: a machine moves them in a few wide steps, where a slice's copy is a call.
+fn write_16<T: Copy>(s: &mut [T], at: usize, block: [T; 16])
+    requires { (at + 16 ≤ length s.old) × (length block ≡ 16) }
+    ensures { s.new ≡ paste s.old at block 16 }
+{
+    for k in 0..16 {
+        s[at + k] = block[k];
+    }
+}
 
 // Copies the elements from a up to e to a place on, where they stand before it or behind all that is written.
 fn within_one<T: Copy>(s: &mut [T], a: usize, e: usize, at: usize)
@@ -11,7 +22,7 @@ fn within_one<T: Copy>(s: &mut [T], a: usize, e: usize, at: usize)
 {
     for k in 0..(e - a).div_ceil(16) {
         let block: [T; 16] = *s[a + 16 * k..].first_chunk().unwrap();
-        s[at + 16 * k..at + 16 * k + 16].copy_from_slice(&block);
+        write_16(s, at + 16 * k, block);
     }
 }
 

@@ -11,7 +11,9 @@ fn lay_bytes(src: &[u8], n: usize, out: &mut [u8])
     requires { (n ≤ length src.now) × (n ≤ length out.old) }
     ensures { out.new ≡ padded (length out.old) (take n src.now) }
 {
-    out[..n].copy_from_slice(&src[..n]);
+    for i in 0..n {
+        out[i] = src[i];
+    }
     out[n..].fill(0);
 }
 

@@ -12,13 +12,12 @@ loop-k-preserved g c =
     let to : ℕ = c.args.at + 16 * l.k in
     let d = length-drop i l.s in
     let lt : i < c.args.e = omega (arith, c.div_ceil-k-end.ensures) in
-    let f = rw c.unwrap.ensures at c.first_chunk.ensures.cases in
-    let block = c.copy_from_slice.ensures.after ∙ f.same ∙ ap (take 16) (take_all (length l.s - i) (drop i l.s) (omega (arith, d))) in
-    let n : length c.copy_from_slice.new.self ≡ 16 = ap length block ∙ length-take-le 16 (drop i l.s) (omega (arith, d, l.invariant.same)) in
+    let f = rw c.unwrap-block.ensures at c.first_chunk.ensures.cases in
+    let block = f.same ∙ ap (take 16) (take_all (length l.s - i) (drop i l.s) (omega (arith, d))) in
     let next = copying-on l.invariant p.1.0 lt p.0.1 (block ∙ copying-apart l.invariant (omega (arith, p.1.0)) lt p.1.1) in
     let x : c.args.a + 16 * (l.k + 1) ≡ i + 16 = omega arith in
     let y : c.args.at + 16 * (l.k + 1) ≡ to + 16 = omega arith in
-    rw (put_mid-paste to (to + 16 - to) l.s c.copy_from_slice.new.self c.copy_from_slice.new.self 16 refl (omega arith) (sym n), x, y) next
+    rw (c.write_16.ensures, x, y) next
 
 pub returns : goal.returns
 returns g c =
