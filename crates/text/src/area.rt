@@ -1,6 +1,7 @@
 // Writing into an area of a longer pair of slices: from a place up to a place `end`; nothing before and nothing behind it changes. What stands
 // before or behind the area is a source: its cells can be appended too.
-ghost use Rattle.std.specs.Prelude.{◌≡◌, [], ◌∷◌, ◌+◌, ◌≤◌, ◌<◌, length};
+ghost use Rattle.std.specs.Prelude.{◌≡◌, [], ◌∷◌, ◌+◌, ◌-◌, ◌≤◌, ◌<◌, length};
+ghost use Rattle.std.specs.List.{copy_within};
 ghost use Rattle.text.specs.Cells.{cell, cells, part, written, feed, sign};
 ghost use Rattle.text.specs.Writes.{AppendsIn, Apart, cut};
 
@@ -78,6 +79,16 @@ pub fn put_within(
     to
 }
 
+// Copies the cells from a up to e to a place on, one by one: where no block has room. Out of line, so that what is common stays short.
+#[inline(never)]
+fn copy_short(buf: &mut [u8], nums: &mut [u32], a: usize, e: usize, at: usize)
+    requires { ((a ≤ e) × ((e ≤ length buf.old) × (e ≤ length nums.old))) × ((at + (e - a) ≤ length buf.old) × (at + (e - a) ≤ length nums.old)) }
+    ensures { (buf.new ≡ copy_within buf.old a e at) × (nums.new ≡ copy_within nums.old a e at) }
+{
+    buf.copy_within(a..e, at);
+    nums.copy_within(a..e, at);
+}
+
 // Appends the cells from a up to e of the same pair of slices: in blocks, where 15 cells more can be read behind them (`spare` can) and written.
 #[inline(always)]
 fn append_run(
@@ -101,8 +112,7 @@ fn append_run(
     if 15 <= spare.min(room - n) {
         within(buf, nums, a, e, at.0);
     } else if 0 < n {
-        buf.copy_within(a..e, at.0);
-        nums.copy_within(a..e, at.0);
+        copy_short(buf, nums, a, e, at.0);
     }
     WorkAt(at.0 + n)
 }

@@ -17,8 +17,8 @@ returns c =
           w.within.ensures.0 w.within.ensures.1)
       | else-min-ge15+then-n-gt0 w ↦
           rw (w.buf-is, w.nums-is)
-          (appends_in-copied a.buf.now a.nums.now a.a a.e (omega arith) (omega arith) (omega arith) (omega arith) (omega arith) (omega arith) w.copy_within.ensures.len w.copy_within-then-n-gt0.ensures.len
-          w.copy_within.ensures.after w.copy_within-then-n-gt0.ensures.after)
+          (appends_in-copied a.buf.now a.nums.now a.a a.e (omega arith) (omega arith) (omega arith) (omega arith) (omega arith) (omega arith) w.copy_short.auto.buf w.copy_short.auto.nums
+          w.copy_short.ensures.0 w.copy_short.ensures.1)
       | else-min-ge15+else-n-gt0 w ↦
           (let e : a.at.0 + (a.e - a.a) ≡ a.at.0 = omega arith in
           rw (w.buf-is, w.nums-is, part_end a.a a.e _ (omega arith), e) (appends_in-none _ _ _ _))
