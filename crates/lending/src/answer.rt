@@ -4,7 +4,7 @@ ghost use Rattle.lending.specs.Answer.{losses_by};
 
 use crate::lent::Refusal;
 
-// The length of the text, the number of its losses and the length of the loss bytes.
+// The length of the text, the number of its losses (of its marks, where a report is on marks) and the length of the loss bytes.
 #[derive(Clone, Copy, Debug, PartialEq, Eq)]
 pub struct Converted {
     pub size: usize,

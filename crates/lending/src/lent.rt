@@ -78,7 +78,7 @@ fn before_odd(s: &[u8], i: usize) -> usize
     odd.trailing_zeros().min(16) as usize
 }
 
-// Past bytes from a place on none of which is odd. A while: blocks of 16, and what is left of the last.
+// Past bytes from a place on none of which is odd, in blocks of 16. A while: it ends within the first block that has an odd byte.
 fn past_clean(s: &[u8], at: usize) -> usize
     requires { at ≤ length s.now }
     ensures { (at ≤ result) × (result ≤ length s.now) × ((utf8 (drop at s.now) && not (any_zero_or_return (drop at s.now))) ≡ (utf8 (drop result s.now) && not (any_zero_or_return (drop result s.now)))) }

@@ -35,6 +35,7 @@ impl Machine {
         ensures { Finishes areas seen work.old numbers.old self.old work.new numbers.new result }
     {
         let mut most = seen;
+        // A while: until the table is empty.
         while areas.table.0 < self.top.0 {
             most = most.max(self.at.0 - areas.base.0);
             self.close_list(areas, work, numbers);

@@ -125,8 +125,7 @@ fn mark_post(post: &[u8], m: usize, work: &mut [u8], numbers: &mut [u32]) -> Wor
     marks_pass(work, numbers, n, WorkAt(m), m)
 }
 
-// Converts a post, where `lent` records are lent; nothing is cleared. The losses are listed as plain
-// numbers.
+// Converts a post, where `lent` records are lent; nothing is cleared. The losses are listed as plain numbers.
 fn convert(
     post: &[u8],
     out: &mut [u8],

@@ -335,7 +335,7 @@ fn has_mask(s: &[u8]) -> bool
     false
 }
 
-// The same, and most texts have no mask.
+// As `mask_each`, which most texts need not: they have no mask.
 pub fn mask_all(buf: &mut [u8], n: usize) -> usize
     requires { n ≤ length buf.old }
     ensures { (result ≤ n) × (take result buf.new ≡ visible (take n buf.old)) }

@@ -1,5 +1,5 @@
 // The post of a case: `post=`, then its bytes, LF as `\n`, backslash as `\\`, and as `\xNN` a byte that no listing has.
-ghost use Rattle.std.specs.Prelude.{◌<◌};
+ghost use Rattle.std.specs.Prelude.{◌≤◌, ◌<◌, length, IfSome};
 
 use post_listing::{POST_MOST, list_thread};
 use text::PostAt;
@@ -45,8 +45,10 @@ fn unescape<'a>(s: &[u8], room: &'a mut [u8]) -> &'a [u8] {
     room
 }
 
-// Lists the post whose line `s` begins with at the start of `buf`; None where there is no post.
-pub fn list_line<'a>(s: &[u8], buf: &'a mut [u8], nums: &mut [u32]) -> Option<&'a [u8]> {
+// Lists the post whose line `s` begins with at the start of `buf`; None where there is no post, or its listing does not fit.
+pub fn list_line<'a>(s: &[u8], buf: &'a mut [u8], nums: &mut [u32]) -> Option<&'a [u8]>
+    ensures { IfSome result (λ line. length line.now ≤ length buf.old) }
+{
     let mut room = [0u8; LINE_ROOM];
     let line = unescape(s, &mut room);
     let post = line.get(KEY.len()..)?;

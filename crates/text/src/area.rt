@@ -2,13 +2,13 @@
 // before or behind the area is a source: its cells can be appended too.
 ghost use Rattle.std.specs.Prelude.{◌≡◌, [], ◌∷◌, ◌+◌, ◌-◌, ◌≤◌, ◌<◌, length};
 ghost use Rattle.std.specs.List.{copy_within};
-ghost use Rattle.text.specs.Cells.{cell, cells, part, written, feed, sign};
+ghost use Rattle.text.specs.Cells.{cell, cells, part, written, sign};
 ghost use Rattle.text.specs.Writes.{AppendsIn, Apart, cut};
 
 use crate::blank::place_at;
 use crate::block::within;
 use crate::bounds::FULL;
-use crate::cell::{RULE_BLANK, RULE_SIGN};
+use crate::cell::RULE_SIGN;
 use crate::{PostAt, WorkAt};
 
 // Appends one cell.
@@ -23,14 +23,6 @@ pub fn put_in(buf: &mut [u8], nums: &mut [u32], end: usize, at: WorkAt, b: u8, x
     } else {
         WorkAt(FULL)
     }
-}
-
-// Appends a line feed that a rule writes.
-pub fn put_feed_in(buf: &mut [u8], nums: &mut [u32], end: usize, at: WorkAt) -> WorkAt
-    requires { (end ≤ length buf.old) × (end ≤ length nums.old) }
-    ensures { AppendsIn buf.old nums.old end at.0 buf.new nums.new result.0 (feed ∷ []) }
-{
-    put_in(buf, nums, end, at, b'\n', RULE_BLANK)
 }
 
 // Appends a byte that a rule writes and that is not blank.

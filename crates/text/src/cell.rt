@@ -1,4 +1,4 @@
-// The code of a cell, as a work number holds it: twice its origin, and 1 more where its character is blank. It is made and read here alone.
+// The code of a cell, as a work number holds it: twice its origin, and 1 more where its character is blank. What a cell with an origin has is made and read here.
 ghost use Rattle.std.specs.Prelude.{◌≡◌, ◌+◌, ◌*◌, ◌≤◌};
 ghost use Rattle.text.specs.Cells.{origin_of, is_blank};
 ghost use Rattle.text.specs.Bounds.{text_most};

@@ -1,6 +1,6 @@
 // A writer: it appends cells to an area of a longer pair of slices, from a place `at` up to a place `end`; nothing before and nothing behind the area changes.
 // What stands before or behind it is a source: its cells can be appended too. Where a text does not fit, the place goes past every end and stays there.
-ghost use Rattle.std.specs.Prelude.{◌≡◌, [], ◌∷◌, map, ◌+◌, ◌≤◌, ◌<◌, length, leb};
+ghost use Rattle.std.specs.Prelude.{◌≡◌, [], ◌∷◌, map, ◌+◌, ◌≤◌, ◌<◌, length};
 ghost use Rattle.text.specs.Cells.{cell, cells, part, written, feed, sign};
 ghost use Rattle.text.specs.Decimal.{decimal};
 ghost use Rattle.text.specs.Lines.{trim_start, trim_end, all_blank, lines};
@@ -132,12 +132,5 @@ impl Writer<'_> {
         ensures { (a.0 ≤ result.0) × ((result.0 ≤ e.0) × (lines (part a.0 e.0 (cells self.now.bytes.now self.now.numbers.now)) ≡ part a.0 result.0 (cells self.now.bytes.now self.now.numbers.now) ∷ lines (part (result.0 + 1) e.0 (cells self.now.bytes.now self.now.numbers.now)))) }
     {
         line_end(self.bytes, self.numbers, a, e)
-    }
-
-    // Whether what was appended fits.
-    pub fn fits(&self) -> bool
-        ensures { result ≡ leb self.now.at.0 self.now.end }
-    {
-        self.at.0 <= self.end
     }
 }

@@ -1,6 +1,5 @@
-use Rattle.std.proofs.Common.{arith, ◌≡◌, ◌+◌, ◌-◌, ◌*◌, ℕ, length, take, drop, ◌<◌, refl, sym, ap, length-drop, ◌∙◌}
-use Rattle.std.proofs.lemmas.Slice.{put_mid-paste}
-use Rattle.std.proofs.lemmas.List.{take_all, length-take-le}
+use Rattle.std.proofs.Common.{arith, ◌≡◌, ◌+◌, ◌-◌, ◌*◌, ℕ, length, take, drop, ◌<◌, ap, length-drop, ◌∙◌}
+use Rattle.std.proofs.lemmas.List.{take_all}
 use Rattle.text.proofs.Blocks.{copying-on, copying-end, copying-apart}
 use Rattle.text.proofs.block.within_one.Goals as goal
 
