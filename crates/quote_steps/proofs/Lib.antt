@@ -1,4 +1,5 @@
 pub mod Stacking
+pub mod Memories
 pub mod Texts
 pub mod Passing
 pub mod Taking

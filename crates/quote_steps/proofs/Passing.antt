@@ -9,6 +9,7 @@ use lib.Dec.{leb}
 use borrow.Author.Tests.{leb-false}
 use lib.ListN.{length, take, drop, get_or, length-append, length-map}
 use lib.Seq.{length-take-le, get_or-take, take-take, take_at, drop_at}
+use Rattle.text.specs.declared.PostAt.{PostAt}
 use Rattle.text.specs.Bounds.{deep_most}
 use Rattle.text.specs.Cells.{Cell, cells, bytes, part, feed}
 use Rattle.text.specs.Writes.{Holds, Appends, AppendsIn}
@@ -17,14 +18,17 @@ use Rattle.text.proofs.Areas.{area-length}
 use Rattle.text.proofs.Clearing.{cells-bytes}
 use Rattle.text.proofs.Sources.{cells-taken}
 use Rattle.quote_blocks.proofs.Reading.{read-opener, read-closer, read-text, read-end}
-use Rattle.quote_tags.specs.Tags.{attribution_of, opener_size, closer_size}
+use Rattle.quote_tags.specs.Tags.{NextBracket, attribution_of, opener_size, closer_size}
 use Rattle.quote_tags.proofs.Plain.{PlainRun}
 use Rattle.quote_blocks.specs.Quotes.{Token, text, opens, closes, tokens, Quote, State, start, opening, held, total, close, closed, step, finish, run, quotes, finish_need, run_need, quotes_need, quote_block, too_deep_from, too_deep}
+use Rattle.quote_steps.proofs.Memories.{same-none, same-then, end-bytes, end-numbers}
 use Rattle.quote_steps.proofs.Texts.{read-run, more-is, more-opened, run-texts, need-texts, texts-needed, deep-texts}
-use Rattle.quote_steps.specs.Passes.{texts, more, Stood, Stands, Closes, ClosesIn, Takes, TakesOne, Leaves, ClosesLast, ClosesAll, Finishing}
+use Rattle.quote_steps.specs.Passes.{texts, more, Stood, Stands, Closes, ClosesIn, Takes, TakesOne, Leaves, PassedIn, ClosesLast, Finishing}
+use Rattle.quote_steps.specs.Memories.{Same, ClosesInner, Ready, TakesToken, ClosesAll}
 use Rattle.std.specs.Prelude.{Option, Some, None}
 use Rattle.quote_steps.specs.declared.stack.Opened.{Opened}
-use Rattle.quote_steps.specs.declared.close.Areas.{Areas}
+use Rattle.quote_steps.specs.declared.close.Memory.{Memory}
+use Rattle.quote_steps.specs.declared.pass.Taken.{Taken}
 use Rattle.quote_steps.specs.declared.pass.Reached.{Reached}
 use Rattle.quote_steps.specs.declared.pass.Passed.{Passed}
 use Rattle.attribution_parts.specs.Attribution.{caption}
@@ -436,92 +440,134 @@ module _ (caption : List ℕ → List ℕ) where
 
 -- ---- the loops
 
-module _ (m : Areas) (bs₀ ns₀ : List ℕ) (os₀ : List Opened) (r : Reached) where
+module _ (m : Memory) (os₀ : List Opened) (r : Reached) where
   -- of all that may be open at the start
-  pub record ClosingAll (bs ns : List ℕ) (to : ℕ) (os : List Opened) (seen : ℕ) : Type 0 where
-    pub each : (P now : List Cell) (qs : List Quote) → length P ≡ m.base.0 → m.base.0 + r.seen ≤ m.end.0 → Stands m.text.0 P (take m.end.0 (cells bs₀ ns₀)) r.to.0 os₀ (record { now = now; opened = qs })
-        → Closing caption m.text.0 m.end.0 P now qs r.seen (take m.end.0 (cells bs ns)) to os seen
+  pub record ClosingAll (n : Memory) (to : ℕ) (os : List Opened) (seen : ℕ) : Type 0 where
+    pub each : (P now : List Cell) (qs : List Quote) → length P ≡ m.areas.base.0 → m.areas.base.0 + r.seen ≤ m.areas.end.0
+        → Stands m.areas.text.0 P (take m.areas.end.0 (cells m.work.now m.numbers.now)) r.to.0 os₀ (record { now = now; opened = qs })
+        → Closing caption m.areas.text.0 m.areas.end.0 P now qs r.seen (take m.areas.end.0 (cells n.work.now n.numbers.now)) to os seen
 
-  pub all_start : ClosingAll bs₀ ns₀ r.to.0 os₀ r.seen
-  all_start = record { each = λ P now qs e_p f st. closing-start caption m.text.0 m.end.0 P now qs (omega (arith, e_p, f)) st }
+  pub all_start : ClosingAll m r.to.0 os₀ r.seen
+  all_start = record { each = λ P now qs e_p f st. closing-start caption m.areas.text.0 m.areas.end.0 P now qs (omega (arith, e_p, f)) st }
 
-  module _ {bs ns : List ℕ} {to seen : ℕ} {os : List Opened} (w : ClosingAll bs ns to os seen) (hb : m.end.0 ≤ length bs) (hn : m.end.0 ≤ length ns) (fit : to ≤ m.end.0) where
-    pub all_end : os ≡ [] → (n : ℕ) → n ≡ max seen (to - m.base.0) → ClosesAll m bs₀ ns₀ os₀ r bs ns (Some (record { end = record { 0 = to }; need = n }))
-    all_end z n en P now qs e_p f st =
-        subst (λ (k : ℕ). Leaves k m.end.0 (take m.end.0 (cells bs ns)) (finish caption now qs) (max r.seen (finish_need caption now qs)) (Some (record { end = record { 0 = to }; need = n }))) e_p
-        (closing_end caption m.text.0 m.end.0 P (w.each P now qs e_p f st) (area-length bs ns m.end.0 hb hn) fit z n (rw e_p en))
+  module _ {n : Memory} {to seen : ℕ} {os : List Opened} (w : ClosingAll n to os seen) (s : Same m n) (fit : to ≤ m.areas.end.0) where
+    size : length (take m.areas.end.0 (cells n.work.now n.numbers.now)) ≡ m.areas.end.0
+    size = area-length n.work.now n.numbers.now m.areas.end.0 (end-bytes s) (end-numbers s)
 
-    module _ {bs' ns' : List ℕ} {to' : ℕ} {o : Opened} {rest : List Opened} (eo : os ≡ o ∷ rest) (cl : ClosesLast caption m.text.0 m.base.0 m.end.0 bs ns to o bs' ns' to') (lb : length bs' ≡ length bs) (ln : length ns' ≡ length ns) where
-      pub all-on : (n : ℕ) → n ≡ max seen (to - m.base.0) → ClosingAll bs' ns' to' rest n
-      all-on n en = record {
+    pub all_end : os ≡ [] → (k : ℕ) → k ≡ max seen (to - m.areas.base.0) → ClosesAll m os₀ r n (Some (record { end = record { 0 = to }; need = k }))
+    all_end z k ek P now qs e_p f st =
+        subst (λ (k' : ℕ). Leaves k' m.areas.end.0 (take m.areas.end.0 (cells n.work.now n.numbers.now)) (finish caption now qs) (max r.seen (finish_need caption now qs)) (Some (record { end = record { 0 = to }; need = k }))) e_p
+        (closing_end caption m.areas.text.0 m.areas.end.0 P (w.each P now qs e_p f st) size fit z k (rw e_p ek))
+
+    module _ {n' : Memory} {to' : ℕ} {o : Opened} {rest : List Opened} (eo : os ≡ o ∷ rest) (q : ClosesInner n o to n' to') (s' : Same n n') where
+      last : ClosesLast caption m.areas.text.0 m.areas.base.0 m.areas.end.0 n.work.now n.numbers.now to o n'.work.now n'.numbers.now to'
+      last = rw s.areas at q.closes
+
+      size' : length (take m.areas.end.0 (cells n'.work.now n'.numbers.now)) ≡ m.areas.end.0
+      size' = let t = same-then s s' in area-length n'.work.now n'.numbers.now m.areas.end.0 (end-bytes t) (end-numbers t)
+
+      pub all-place : m.areas.base.0 ≤ to'
+      all-place = rw s.areas at q.place
+
+      pub all-on : (k : ℕ) → k ≡ max seen (to - m.areas.base.0) → ClosingAll n' to' rest k
+      all-on k ek = record {
         each = λ P now qs e_p f st.
-            rw (en, ← e_p) (closing-on caption m.text.0 m.end.0 P (w.each P now qs e_p f st) (area-length bs ns m.end.0 hb hn) fit o rest eo (λ now' q qs' h. cl.each P now' q qs' rest e_p h)
-            (area-length bs' ns' m.end.0 (omega arith) (omega arith)));
+            rw (ek, ← e_p) (closing-on caption m.areas.text.0 m.areas.end.0 P (w.each P now qs e_p f st) size fit o rest eo (λ now' q' qs' h. last.each P now' q' qs' rest e_p h) size');
       }
 
-      pub all-full : m.end.0 < to' → ClosesAll m bs₀ ns₀ os₀ r bs' ns' None
+      pub all-full : m.areas.end.0 < to' → ClosesAll m os₀ r n' None
       all-full lt P now qs e_p f st =
-          subst (λ (k : ℕ). m.end.0 < k + max r.seen (finish_need caption now qs)) e_p
-          (closing-full caption m.text.0 m.end.0 P (w.each P now qs e_p f st) (area-length bs ns m.end.0 hb hn) fit o rest eo (λ now' q qs' h. cl.each P now' q qs' rest e_p h)
-          (area-length bs' ns' m.end.0 (omega arith) (omega arith)) lt)
+          subst (λ (k : ℕ). m.areas.end.0 < k + max r.seen (finish_need caption now qs)) e_p
+          (closing-full caption m.areas.text.0 m.areas.end.0 P (w.each P now qs e_p f st) size fit o rest eo (λ now' q' qs' h. last.each P now' q' qs' rest e_p h) size' lt)
 
-module _ (m : Areas) (bs₀ ns₀ : List ℕ) where
+module _ (m : Memory) where
   abbrev P₀ : List Cell
-  P₀ = take m.base.0 (cells bs₀ ns₀)
+  P₀ = take m.areas.base.0 (cells m.work.now m.numbers.now)
 
-  -- the run, in slices
-  pub record RunningIn (bs ns : List ℕ) (to : ℕ) (os : List Opened) (i seen : ℕ) : Type 0 where
-    pub runs : Running caption m.text.0 m.end.0 P₀ (take m.end.0 (cells bs ns)) to os i seen
+  -- the run, in memory
+  pub record RunningIn (n : Memory) (os : List Opened) (t : Taken) (seen : ℕ) : Type 0 where
+    pub text : take m.areas.text.0 n.work.now ≡ take m.areas.text.0 m.work.now
+    pub runs : Running caption m.areas.text.0 m.areas.end.0 P₀ (take m.areas.end.0 (cells n.work.now n.numbers.now)) t.to.0 os t.at.0 seen
 
-  module _ (he : m.text.0 ≤ m.base.0) (hp : m.base.0 ≤ m.end.0) (hb₀ : m.end.0 ≤ length bs₀) (hn₀ : m.end.0 ≤ length ns₀) where
-    before-length : length P₀ ≡ m.base.0
-    before-length = length-take-le m.base.0 (cells bs₀ ns₀) (cells-le bs₀ ns₀ m.base.0 (omega arith) (omega arith))
+  text-within : m.areas.text.0 ≤ m.areas.base.0
+  text-within = m.lent.0.0
 
-    pub run-start : too_deep (take m.text.0 (cells bs₀ ns₀)) ≡ false → RunningIn bs₀ ns₀ m.base.0 [] 0 0
-    run-start z =
+  base-within : m.areas.base.0 ≤ m.areas.end.0
+  base-within = m.lent.0.1
+
+  before-length : length P₀ ≡ m.areas.base.0
+  before-length = let b = end-bytes (same-none m) in let c = end-numbers (same-none m) in let h = base-within in length-take-le m.areas.base.0 (cells m.work.now m.numbers.now) (cells-le m.work.now m.numbers.now m.areas.base.0 (omega arith) (omega arith))
+
+  text-is : take m.areas.text.0 P₀ ≡ take m.areas.text.0 (cells m.work.now m.numbers.now)
+  text-is = take-take m.areas.text.0 m.areas.base.0 (cells m.work.now m.numbers.now) text-within
+
+  pub run-start : too_deep (take m.areas.text.0 (cells m.work.now m.numbers.now)) ≡ false → (b : PostAt) → RunningIn m [] (record { at = record { 0 = 0 }; bracket = b; to = m.areas.base }) 0
+  run-start z b =
+      let l = before-length in
+      let h = base-within in
+      let a = area-length m.work.now m.numbers.now m.areas.end.0 (end-bytes (same-none m)) (end-numbers (same-none m)) in
+      record {
+        text = refl;
+        runs = subst (λ (k : ℕ). Running caption m.areas.text.0 m.areas.end.0 P₀ (take m.areas.end.0 (cells m.work.now m.numbers.now)) k [] 0 0) l
+            (running-start caption m.areas.text.0 m.areas.end.0 P₀ (take m.areas.end.0 (cells m.work.now m.numbers.now)) (rw l (take-take m.areas.base.0 m.areas.end.0 (cells m.work.now m.numbers.now) h)) (omega arith) (rw text-is z) (omega arith));
+      }
+
+  module _ {n : Memory} {t : Taken} {os : List Opened} {seen : ℕ} (w : RunningIn n os t seen) (s : Same m n) (place : (m.areas.base.0 ≤ t.to.0) × (t.to.0 ≤ m.areas.end.0)) where
+    running-size : length (take m.areas.end.0 (cells n.work.now n.numbers.now)) ≡ m.areas.end.0
+    running-size = area-length n.work.now n.numbers.now m.areas.end.0 (end-bytes s) (end-numbers s)
+
+    run_room : (opener_size (drop t.at.0 (take m.areas.text.0 n.work.now)) ≡ 0 → ⊥) → length os < deep_most
+    run_room f =
         let l = before-length in
-        let a = area-length bs₀ ns₀ m.end.0 hb₀ hn₀ in
-        record {
-          runs = subst (λ (k : ℕ). Running caption m.text.0 m.end.0 P₀ (take m.end.0 (cells bs₀ ns₀)) k [] 0 0) l
-              (running-start caption m.text.0 m.end.0 P₀ (take m.end.0 (cells bs₀ ns₀)) (rw l (take-take m.base.0 m.end.0 (cells bs₀ ns₀) hp)) (omega arith) (rw (take-take m.text.0 m.base.0 (cells bs₀ ns₀) he) z) (omega arith));
-        }
+        let a = text-within in
+        let b = base-within in
+        running-room caption m.areas.text.0 m.areas.end.0 P₀ w.runs running-size place.1 (take m.areas.text.0 n.work.now)
+        (text-bytes caption m.areas.text.0 m.areas.end.0 P₀ n.work.now n.numbers.now t.to.0 os w.runs.state w.runs.stands (omega arith) (omega arith) (end-bytes s) (end-numbers s) place.1) refl f
 
-    module _ {bs ns : List ℕ} {to : ℕ} {os : List Opened} {i seen : ℕ} (w : RunningIn bs ns to os i seen) (hb : m.end.0 ≤ length bs) (hn : m.end.0 ≤ length ns) (fit : to ≤ m.end.0) where
-      pub run_room : (opener_size (drop i (take m.text.0 bs)) ≡ 0 → ⊥) → length os < deep_most
-      run_room n =
-          let l = before-length in
-          running-room caption m.text.0 m.end.0 P₀ w.runs (area-length bs ns m.end.0 hb hn) fit (take m.text.0 bs)
-          (text-bytes caption m.text.0 m.end.0 P₀ bs ns to os w.runs.state w.runs.stands (omega arith) (omega arith) hb hn fit) refl n
+    pub run-ready : t.at.0 < m.areas.text.0 → NextBracket (take m.areas.text.0 n.work.now) t.at.0 t.bracket.0 → Ready n os t
+    run-ready lt b = record { at = rw s.areas lt; to = rw s.areas place; bracket = rw s.areas b; room = rw s.areas run_room }
 
-      pub run_end : m.text.0 ≤ i → Finishing caption m.text.0 m.end.0 P₀ (take m.end.0 (cells bs ns)) to os seen
-      run_end le =
-          let l = before-length in
-          let k : length (take m.text.0 P₀) ≡ m.text.0 = length-take-le m.text.0 P₀ (omega arith) in
-          running-end caption m.text.0 m.end.0 P₀ w.runs (area-length bs ns m.end.0 hb hn) fit (omega arith)
+    pub run_end : m.areas.text.0 ≤ t.at.0 → Finishing caption m.areas.text.0 m.areas.end.0 P₀ (take m.areas.end.0 (cells n.work.now n.numbers.now)) t.to.0 os seen
+    run_end le =
+        let l = before-length in
+        let a = text-within in
+        let k : length (take m.areas.text.0 P₀) ≡ m.areas.text.0 = length-take-le m.areas.text.0 P₀ (omega arith) in
+        running-end caption m.areas.text.0 m.areas.end.0 P₀ w.runs running-size place.1 (omega arith)
 
-      module _ {bs' ns' : List ℕ} {to' : ℕ} {os' : List Opened} {i' : ℕ} (t : TakesOne caption m.text.0 m.base.0 m.end.0 bs ns to os i bs' ns' to' os' i')
-          (lb : length bs' ≡ length bs) (ln : length ns' ≡ length ns) where
-        pub run_on : to' ≤ m.end.0 → (n : ℕ) → n ≡ max seen (to - m.base.0) → RunningIn bs' ns' to' os' i' n
-        run_on le n en =
-            let q : n ≡ max seen (to - length P₀) = en ∙ ap (λ (k : ℕ). max seen (to - k)) (sym before-length) in
-            record {
-              runs = rw q (running-on caption m.text.0 m.end.0 P₀ w.runs (area-length bs ns m.end.0 hb hn) fit (t.each P₀ w.runs.state before-length w.runs.stands)
-                  (area-length bs' ns' m.end.0 (omega arith) (omega arith)) le);
-            }
+    module _ {n' : Memory} {os' : List Opened} {t' : Taken} (q : TakesToken n os t n' os' t') (s' : Same n n') where
+      one : TakesOne caption m.areas.text.0 m.areas.base.0 m.areas.end.0 n.work.now n.numbers.now t.to.0 os t.at.0 n'.work.now n'.numbers.now t'.to.0 os' t'.at.0
+      one = rw s.areas at q.takes
 
-        pub run-full : m.end.0 < to' → m.end.0 < m.base.0 + quotes_need caption (take m.text.0 (cells bs₀ ns₀))
-        run-full lt =
-            let f = running-full caption m.text.0 m.end.0 P₀ w.runs (area-length bs ns m.end.0 hb hn) fit
-            (t.each P₀ w.runs.state before-length w.runs.stands) (area-length bs' ns' m.end.0 (omega arith) (omega arith)) lt in
-            rw (before-length, take-take m.text.0 m.base.0 (cells bs₀ ns₀) he) at f
+      size'' : length (take m.areas.end.0 (cells n'.work.now n'.numbers.now)) ≡ m.areas.end.0
+      size'' = let u = same-then s s' in area-length n'.work.now n'.numbers.now m.areas.end.0 (end-bytes u) (end-numbers u)
 
-    text-is : take m.text.0 P₀ ≡ take m.text.0 (cells bs₀ ns₀)
-    text-is = take-take m.text.0 m.base.0 (cells bs₀ ns₀) he
+      pub run-place : m.areas.base.0 ≤ t'.to.0
+      run-place = rw s.areas at q.place
 
-    module _ {v : List Cell} {os : List Opened} {to seen : ℕ} (f : Finishing caption m.text.0 m.end.0 P₀ v to os seen) where
-      pub seen-short : m.base.0 + seen ≤ m.end.0
-      seen-short = let l = before-length in let s = f.short in omega (arith, l, s)
+      pub run-bracket : NextBracket (take m.areas.text.0 n'.work.now) t'.at.0 t'.bracket.0
+      run-bracket = rw s.areas at q.bracket
 
-      pub pass-done : (v' : List Cell) (a : Option Passed) → Leaves m.base.0 m.end.0 v' (finish caption f.now f.opened) (max seen (finish_need caption f.now f.opened)) a
-          → Leaves m.base.0 m.end.0 v' (quotes caption (take m.text.0 (cells bs₀ ns₀))) (quotes_need caption (take m.text.0 (cells bs₀ ns₀))) a
-      pass-done v' a l = rw (← text-is, f.same, f.need) l
+      pub run-forward : (t.at.0 < t'.at.0) × (t'.at.0 ≤ m.areas.text.0)
+      run-forward = rw s.areas at q.on
+
+      pub run_on : t'.to.0 ≤ m.areas.end.0 → (k : ℕ) → k ≡ max seen (t.to.0 - m.areas.base.0) → RunningIn n' os' t' k
+      run_on le k ek =
+          let x : k ≡ max seen (t.to.0 - length P₀) = ek ∙ ap (λ (j : ℕ). max seen (t.to.0 - j)) (sym before-length) in
+          record {
+            text = (rw s.areas at q.text) ∙ w.text;
+            runs = rw x (running-on caption m.areas.text.0 m.areas.end.0 P₀ w.runs running-size place.1 (one.each P₀ w.runs.state before-length w.runs.stands) size'' le);
+          }
+
+      pub run-full : m.areas.end.0 < t'.to.0 → m.areas.end.0 < m.areas.base.0 + quotes_need caption (take m.areas.text.0 (cells m.work.now m.numbers.now))
+      run-full lt =
+          let f = running-full caption m.areas.text.0 m.areas.end.0 P₀ w.runs running-size place.1 (one.each P₀ w.runs.state before-length w.runs.stands) size'' lt in
+          rw (before-length, text-is) at f
+
+  module _ (n n' : Memory) {os : List Opened} {to seen : ℕ} (f : Finishing caption m.areas.text.0 m.areas.end.0 P₀ (take m.areas.end.0 (cells n.work.now n.numbers.now)) to os seen) where
+    seen-short : m.areas.base.0 + seen ≤ m.areas.end.0
+    seen-short = let l = before-length in let s = f.short in omega (arith, l, s)
+
+    pub pass-done : (a : Option Passed) → Same m n → ClosesAll n os (record { to = record { 0 = to }; seen = seen }) n' a → PassedIn m.areas m.work.now m.numbers.now n'.work.now n'.numbers.now a
+    pass-done a s c =
+        let g = rw s.areas at c in
+        rw (← text-is, f.same, f.need) (g P₀ f.now f.opened before-length seen-short f.stands)

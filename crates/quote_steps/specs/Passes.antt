@@ -2,30 +2,26 @@
 -- behind another from `base` up to a place `to`, in an area that ends at `end`; P is what stands before `base`.
 --   Lent m ..             how long the lent slices are, for the areas m
 --   Content m begin to    where a content may stand
---   Built ..              a block stands in its area, and the contents are as they were
+--   BuiltIn ..            a block stands in its area, and the contents are as they were
 --   Stood .. os qs        where the content of each open quote begins, and where its opener stands in the text
 --   Stands .. s           the area holds what the state s of the machine has
---   Closes ..             the last content of an area has been replaced by another text; ClosesIn: of a pair of slices; ClosesQuote: by a quote's block
---   ClosesLast            the innermost open quote has been closed; ClosesInner: in a pair of slices, whose text stays
+--   Closes ..             the last content of an area has been replaced by another text; ClosesIn: of a pair of slices
+--   ClosesLast            the innermost open quote has been closed
 --   texts x r             text cell by cell, and the tokens r behind it
 --   more s x              the state s, and text behind it
---   Ready ..              there is a token to take
---   Takes, TakesOne       one token has been taken, and text behind it; TakesToken: in a pair of slices, whose text stays
+--   Takes, TakesOne       one token has been taken, and text behind it
 --   Leaves .. need r      the area holds the pass's result and r its need, or the need exceeds the room; PassedIn: of the whole pass
---   ClosesAll             all open quotes have been closed, as far as they fit
---   RunsAll               all tokens have been taken, as far as they fit; Finishing: what is open behind them
+--   Finishing ..          all tokens have been taken: what is open behind them
 -- Assumes nothing.
 use Rattle.std.specs.Prelude.{◌≡◌, ℕ, ◌+◌, ◌-◌, ◌*◌, ◌≤◌, ◌<◌, max, List, [], ◌∷◌, ◌++◌, length, take, drop, Option, Some, None}
-use Rattle.text.specs.Bounds.{deep_most, number_most}
+use Rattle.text.specs.Bounds.{number_most}
 use Rattle.text.specs.Cells.{Cell, cells, bytes, part}
 use Rattle.text.specs.Writes.{Holds, Appends}
 use Rattle.attribution_parts.specs.Attribution.{caption}
-use Rattle.quote_tags.specs.Tags.{NextBracket, opener_size, attribution_of}
+use Rattle.quote_tags.specs.Tags.{attribution_of}
 use Rattle.quote_blocks.specs.Quotes.{Token, text, tokens, Quote, State, opening, close, step, finish, finish_need, quotes, quotes_need, quote_block}
 use Rattle.quote_steps.specs.declared.stack.Opened.{Opened}
 use Rattle.quote_steps.specs.declared.close.Areas.{Areas}
-use Rattle.quote_steps.specs.declared.pass.Taken.{Taken}
-use Rattle.quote_steps.specs.declared.pass.Reached.{Reached}
 use Rattle.quote_steps.specs.declared.pass.Passed.{Passed}
 
 -- a block's area is as long as the contents may get, and behind it there is room for as many bytes again; places fit in work numbers, four times over
@@ -49,9 +45,6 @@ pub record BuiltIn (bs ns : List ℕ) (end top : ℕ) (bs' ns' : List ℕ) (r : 
   pub bytes-kept : take end bs' ≡ take end bs
   pub numbers-kept : take end ns' ≡ take end ns
 
-abbrev pub Built : (m : Areas) (bs ns : List ℕ) (tag begin to : ℕ) (bs' ns' : List ℕ) (r : ℕ) → Type 0
-Built m bs ns tag begin to bs' ns' r = BuiltIn bs ns m.end.0 m.top.0 bs' ns' r (block_of m.text.0 bs tag (part begin to (cells bs ns)))
-
 -- s: the text's bytes
 unfoldable pub Stood : (s : List ℕ) (base : ℕ) → List Opened → List Quote → Type 0
 Stood s base [] [] = Unit
@@ -74,9 +67,6 @@ pub record Closes (v : List Cell) (start to : ℕ) (v' : List Cell) (to' : ℕ) 
 -- the same in the area of a pair of slices
 pub record ClosesIn (bs ns : List ℕ) (end start to : ℕ) (bs' ns' : List ℕ) (to' : ℕ) (block : List Cell → List Cell) : Type 0 where
   pub closes : Closes (take end (cells bs ns)) start to (take end (cells bs' ns')) to' block
-
-abbrev pub ClosesQuote : (m : Areas) (bs ns : List ℕ) (tag start to : ℕ) (bs' ns' : List ℕ) (to' : ℕ) → Type 0
-ClosesQuote m bs ns tag start to bs' ns' to' = ClosesIn bs ns m.end.0 start to bs' ns' to' (block_of m.text.0 bs tag)
 
 unfoldable pub texts : List Cell → List Token → List Token
 texts [] r = r
@@ -102,25 +92,6 @@ pub record ClosesLast (caption : List ℕ → List ℕ) (e base end : ℕ) (bs n
   pub each : (P now : List Cell) (q : Quote) (qs : List Quote) (os : List Opened) → length P ≡ base → Stands e P (take end (cells bs ns)) to (o ∷ os) (record { now = now; opened = q ∷ qs })
       → Stands e P (take end (cells bs' ns')) to' os (record { now = close caption q now; opened = qs })
 
-pub record ClosesInner (m : Areas) (bs ns : List ℕ) (o : Opened) (to : ℕ) (bs' ns' : List ℕ) (to' : ℕ) : Type 0 where
-  pub place : m.base.0 ≤ to'
-  pub text : take m.text.0 bs' ≡ take m.text.0 bs
-  pub closes : ClosesLast caption m.text.0 m.base.0 m.end.0 bs ns to o bs' ns' to'
-
-pub record Ready (m : Areas) (bs ns : List ℕ) (os : List Opened) (t : Taken) : Type 0 where
-  pub lent : Lent m bs ns
-  pub at : t.at.0 < m.text.0
-  pub to : (m.base.0 ≤ t.to.0) × (t.to.0 ≤ m.end.0)
-  pub bracket : NextBracket (take m.text.0 bs) t.at.0 t.bracket.0
-  pub room : (opener_size (drop t.at.0 (take m.text.0 bs)) ≡ 0 → ⊥) → length os < deep_most
-
-pub record TakesToken (m : Areas) (bs ns : List ℕ) (os : List Opened) (t : Taken) (bs' ns' : List ℕ) (os' : List Opened) (t' : Taken) : Type 0 where
-  pub on : (t.at.0 < t'.at.0) × (t'.at.0 ≤ m.text.0)
-  pub place : m.base.0 ≤ t'.to.0
-  pub text : take m.text.0 bs' ≡ take m.text.0 bs
-  pub bracket : NextBracket (take m.text.0 bs') t'.at.0 t'.bracket.0
-  pub takes : TakesOne caption m.text.0 m.base.0 m.end.0 bs ns t.to.0 os t.at.0 bs' ns' t'.to.0 os' t'.at.0
-
 -- v holds the text `result` from `base` on, in the room up to `end`
 abbrev pub Leaves : (base end : ℕ) (v result : List Cell) (need : ℕ) → Option Passed → Type 0
 Leaves base end v result need (Some p) = ((base + need ≤ end) × (p.need ≡ need)) × ((p.end.0 ≡ base + length result) × (part base p.end.0 v ≡ result))
@@ -130,12 +101,6 @@ abbrev pub PassedIn : (m : Areas) (bs ns bs' ns' : List ℕ) → Option Passed �
 PassedIn m bs ns bs' ns' =
     Leaves m.base.0 m.end.0 (take m.end.0 (cells bs' ns')) (quotes caption (take m.text.0 (cells bs ns))) (quotes_need caption (take m.text.0 (cells bs ns)))
 
--- whatever is open at r
-abbrev pub ClosesAll : (m : Areas) (bs ns : List ℕ) (os : List Opened) (r : Reached) (bs' ns' : List ℕ) → Option Passed → Type 0
-ClosesAll m bs ns os r bs' ns' answer =
-    (P now : List Cell) (qs : List Quote) → length P ≡ m.base.0 → m.base.0 + r.seen ≤ m.end.0 → Stands m.text.0 P (take m.end.0 (cells bs ns)) r.to.0 os (record { now = now; opened = qs })
-    → Leaves m.base.0 m.end.0 (take m.end.0 (cells bs' ns')) (finish caption now qs) (max r.seen (finish_need caption now qs)) answer
-
 -- what is open is left to be closed
 pub record Finishing (caption : List ℕ → List ℕ) (e end : ℕ) (P v : List Cell) (to : ℕ) (os : List Opened) (seen : ℕ) : Type 0 where
   pub now : List Cell
@@ -144,8 +109,3 @@ pub record Finishing (caption : List ℕ → List ℕ) (e end : ℕ) (P v : List
   pub same : quotes caption (take e P) ≡ finish caption now opened
   pub need : quotes_need caption (take e P) ≡ max seen (finish_need caption now opened)
   pub short : length P + seen ≤ end
-
-abbrev pub RunsAll : (m : Areas) (bs ns bs' ns' : List ℕ) (os : List Opened) → Option Reached → Type 0
-RunsAll m bs ns bs' ns' os (Some r) =
-    ((m.base.0 ≤ r.to.0) × (r.to.0 ≤ m.end.0)) × Finishing caption m.text.0 m.end.0 (take m.base.0 (cells bs ns)) (take m.end.0 (cells bs' ns')) r.to.0 os r.seen
-RunsAll m bs ns bs' ns' os None = m.end.0 < m.base.0 + quotes_need caption (take m.text.0 (cells bs ns))

@@ -95,6 +95,15 @@ openers-by x {t} {b} et eb = rw (then 93 (omega arith) (omega arith) refl, then 
 openers-other : (x : List ℕ) → begins (ascii "[quote") x ≡ false → begins_any openers x ≡ false
 openers-other x p = sym (openers-by x (sym p) refl)
 
+-- an opener's second byte is a q, a closer's `/`
+pub openers-alone : (x : List ℕ) → (opener_size x ≡ 0 → ⊥) → closer_size x ≡ 0
+unfolding opener_size closer_size begins_any
+openers-alone x n = by (eqb (small (get_or x 1 0)) 47) refl
+  where
+    by : (t : Bool) → eqb (small (get_or x 1 0)) 47 ≡ t → closer_size x ≡ 0
+    by true p = absurd (n (sym (tag-not openers x (openers-other x (byte-other 1 _ x (omega arith) (λ q. let z = eqb-true _ 47 p in omega (arith, z, q)))))))
+    by false p = sym (tag-not closers x (rw (byte-other 1 (ascii "[/quote]") x (omega arith) (eqb-false _ 47 p))))
+
 plain : (x : List ℕ) → begins (ascii "[quote") x ≡ false → begins (ascii "[/quote]") x ≡ false → NoTag x
 unfolding opener_size closer_size begins_any
 plain x p q = (sym (tag-not openers x (openers-other x p)), sym (tag-not closers x (rw q)))

@@ -13,7 +13,7 @@ use Rattle.text.specs.Ascii.{begins, to_bracket}
 use Rattle.std.specs.Prelude.{Option, Some, None, MatchOption}
 use Rattle.quote_tags.specs.declared.tag.Kind.{Kind}
 use Rattle.quote_tags.specs.declared.tag.Kind.TheVariants.{Opener, Closer, Plain}
-use Rattle.quote_tags.specs.Tags.{up_to_bracket, begins_any, tag_size, openers, closers, opener_size, closer_size, sized, tag_of, attribution_of}
+use Rattle.quote_tags.specs.Tags.{up_to_bracket, begins_any, tag_size, openers, closers, opener_size, closer_size, sized, tag_of, opened, closed, attribution_of}
 
 -- ---- up to the `]` at b
 
@@ -216,6 +216,16 @@ module _ (u v : ℕ) {r : Kind} (e : r ≡ tag_of u v) where
       by zero zero p = (refl, refl)
       by zero (suc v) p = absurd (cc)
       by (suc u) v p = absurd (cc)
+
+  -- where an opener is no closer, the kind tells both sizes
+  pub tag-sizes : ((u ≡ 0 → ⊥) → v ≡ 0) → (u ≡ opened r) × (v ≡ closed r)
+  unfolding tag_of
+  tag-sizes alone = rw e (by u v alone)
+    where
+      by : (u v : ℕ) → ((u ≡ 0 → ⊥) → v ≡ 0) → (u ≡ opened (tag_of u v)) × (v ≡ closed (tag_of u v))
+      by zero zero f = (refl, refl)
+      by zero (suc v) f = (refl, refl)
+      by (suc u) v f = (refl, f (λ z. omega (arith, z)))
 
   pub tag-other : ((k : ℕ) → r ≡ Opener k → ⊥) → u ≡ 0
   unfolding tag_of

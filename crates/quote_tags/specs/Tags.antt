@@ -5,6 +5,7 @@
 --   closer_size s     `[/quote]`
 --   sized k          a size as code has it: none where it is 0
 --   tag_of k j       what stands where an opener has k bytes and a closer j: 0 where there is none
+--   opened, closed   how many bytes the opener and the closer have that a kind tells of: 0 where it tells of none
 --   NoTag s          s begins with no quote tag
 --   NoQ b            b is no q, small or capital
 --   attribution_of s  what stands between `=` or space and `]`, where s begins with an opener
@@ -46,6 +47,16 @@ unfoldable pub tag_of : (opener closer : ℕ) → Kind
 tag_of zero zero = Plain
 tag_of zero (suc k) = Closer (suc k)
 tag_of (suc k) j = Opener (suc k)
+
+abbrev pub opened : Kind → ℕ
+opened (Opener k) = k
+opened (Closer k) = 0
+opened Plain = 0
+
+abbrev pub closed : Kind → ℕ
+closed (Opener k) = 0
+closed (Closer k) = k
+closed Plain = 0
 
 abbrev pub NoTag : List ℕ → Type 0
 NoTag s = (opener_size s ≡ 0) × (closer_size s ≡ 0)

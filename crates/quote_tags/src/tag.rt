@@ -2,7 +2,7 @@
 ghost use Rattle.std.specs.Prelude.{◌≡◌, false, ℕ, ◌+◌, ◌≤◌, ◌<◌, length, drop, get_or};
 ghost use Rattle.quote_tags.specs.declared.tag.Kind.TheVariants.{Plain};
 ghost use Rattle.text.specs.Ascii.{to_bracket};
-ghost use Rattle.quote_tags.specs.Tags.{NextBracket, up_to_bracket, begins_any, openers, opener_size, closer_size, sized, tag_of, NoTag, NoQ};
+ghost use Rattle.quote_tags.specs.Tags.{NextBracket, up_to_bracket, begins_any, openers, opener_size, closer_size, sized, tag_of, opened, closed, NoTag, NoQ};
 
 use text::PostAt;
 use text::scan::{begins_at, byte_at, next_bracket, next_byte, small_of};
@@ -156,7 +156,9 @@ pub struct Tag {
 
 pub fn tag_at(s: &[u8], at: PostAt, known: PostAt) -> Tag
     requires { (at.0 ≤ length s.now) × NextBracket s.now at.0 known.0 }
-    ensures { (NextBracket s.now at.0 result.bracket.0 × ((result.kind ≡ Plain → ⊥) → result.bracket.0 ≡ at.0 + to_bracket (drop at.0 s.now))) × (result.kind ≡ tag_of (opener_size (drop at.0 s.now)) (closer_size (drop at.0 s.now))) }
+    ensures next { NextBracket s.now at.0 result.bracket.0 × ((result.kind ≡ Plain → ⊥) → result.bracket.0 ≡ at.0 + to_bracket (drop at.0 s.now)) }
+    ensures kind { result.kind ≡ tag_of (opener_size (drop at.0 s.now)) (closer_size (drop at.0 s.now)) }
+    ensures sizes { (opener_size (drop at.0 s.now) ≡ opened result.kind) × (closer_size (drop at.0 s.now) ≡ closed result.kind) }
 {
     if opens_quote(s, at) {
         let bracket = bracket_from(s, at, known);

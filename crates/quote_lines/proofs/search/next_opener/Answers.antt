@@ -19,8 +19,8 @@ pub returns-in-Opener : goal.returns-in-Opener
 returns-in-Opener c = let l = c.loop-i in
     let E = c.tag_at-tag.ensures in
     let a = c.in-Opener in
-    let k = tag-opener _ _ E.1 a.is in
-    (opener-found (untagged-past l.invariant.0 c.next_tag-at.ensures) refl k.0 E.0.0 (λ _. E.0.1 (λ n. absurd (cc (n, a.is)))) k.1, k.1)
+    let k = tag-opener _ _ E.kind a.is in
+    (opener-found (untagged-past l.invariant.0 c.next_tag-at.ensures) refl k.0 E.next.0 (λ _. E.next.1 (λ n. absurd (cc (n, a.is)))) k.1, k.1)
 
 pub returns-then-s-at : goal.returns-then-s-at
 returns-then-s-at c = let u = untagged-past c.loop-i.invariant.0 c.next_tag-at.ensures in let z : c.next_tag-at.result.0 ≡ length c.args.s.now = omega (arith, u.inside, c.if-s-at.true) in subst (λ p. Untagged c.args.s.now c.args.at.0 p) z u
@@ -29,5 +29,5 @@ pub loop-i-preserved : goal.loop-i-preserved
 loop-i-preserved c = let l = c.loop-i in
     let E = c.tag_at-tag.ensures in
     let u = untagged-past l.invariant.0 c.next_tag-at.ensures in
-    let z : opener_size (drop c.next_tag-at.result.0 c.args.s.now) ≡ 0 = tag-other _ _ E.1 c.in_default.not-Opener in
-    let v = untagged-byte u c.if-s-at.false z in (v, bracket-past _ c.next_tag-at.result.0 _ (omega arith) v.inside E.0.0)
+    let z : opener_size (drop c.next_tag-at.result.0 c.args.s.now) ≡ 0 = tag-other _ _ E.kind c.in_default.not-Opener in
+    let v = untagged-byte u c.if-s-at.false z in (v, bracket-past _ c.next_tag-at.result.0 _ (omega arith) v.inside E.next.0)
