@@ -181,6 +181,16 @@ module _ (src ns : List ℕ) (k from mask : ℕ) (v₀ : List Cell) (at₀ : ℕ
 
 -- ---- a slot that is one text
 
+-- where it stands in the text
+pub text-places : {a e : ℕ} (x : Layout) (w : Writer) (from : ℕ) → HeldIn x w → OneText (source x w.bytes.now) (table x w.numbers.now) x.items from
+    → a ≡ get_or (table x w.numbers.now) (x.size + from) 0 → e ≡ get_or (table x w.numbers.now) (x.size + (from + 1)) 0 → (a ≤ e) × (e ≤ x.size)
+text-places x w from t o f g =
+    let n = source-size x w t.1 in
+    let q = in_source (source x w.bytes.now) (table x w.numbers.now) x.items from t.0 o in
+    let f' = f ∙ ap (λ (j : ℕ). get_or (table x w.numbers.now) (j + from) 0) (sym n) in
+    let g' = g ∙ ap (λ (j : ℕ). get_or (table x w.numbers.now) (j + (from + 1)) 0) (sym n) in
+    (omega (arith, q.0, f', g'), omega (arith, q.1.0, g', n))
+
 pub text_in : {w w' : Writer} (x : Layout) (from a e a' e' c : ℕ) → HeldIn x w → OneText (source x w.bytes.now) (table x w.numbers.now) x.items from
     → a ≡ get_or (table x w.numbers.now) (x.size + from) 0 → e ≡ get_or (table x w.numbers.now) (x.size + (from + 1)) 0 → a' ≡ x.base.0 + a → e' ≡ x.base.0 + e → Wrote w w' (part a' e' (cells w.bytes.now w.numbers.now))
     → ((ss : List ℕ) → SlotWritten (source x w.bytes.now) (table x w.numbers.now) x.items from (area w) w.at.0 ss c (area w') w'.at.0 ss c (from + 2)) × Kept w w'

@@ -8,23 +8,13 @@ use Rattle.mark_writing.specs.Laid.{source, table}
 use Rattle.mark_writing.proofs.SlotWriting.{drawing-start, drawn-end, drawn-leave, drawn-mark}
 use Rattle.mark_writing.proofs.SlotAsking.{ones-few, fresh-ready}
 use Rattle.mark_writing.proofs.MarkWriting.{spans-few}
-use Rattle.mark_writing.proofs.Inwards.{same_source, same-table, bytes_same, area_same, source-size, table-in, piece-area, lies-on, held-as, ready-as, one-text-as, looked-as, mark-ready-as, mark-written-as, piece_inside, drawn-skip, drawn-piece}
+use Rattle.mark_writing.proofs.Inwards.{same_source, same-table, bytes_same, area_same, source-size, table-in, piece-area, lies-on, held-as, ready-as, looked-as, mark-ready-as, mark-written-as, piece_inside, drawn-skip, drawn-piece}
 use Rattle.mark_writing.proofs.MarkEnding.{opened-held, slot-asked, slot-falls, body-asked, mark-done}
 use Rattle.mark_writing.proofs.slot.+write_mark_write_slot.Goals as goal
 
 pub write_mark-items_of-requires : goal.write_mark-items_of-requires
 write_mark-items_of-requires t c =
     opened-held c.args.text c.requires refl (c.delimiter-d.ensures ∙ ap delimiter c.kind_at-kind.ensures) c.put_sign.ensures
-
-pub write_mark-is_one_text-requires : goal.write_mark-is_one_text-requires
-write_mark-is_one_text-requires t c =
-    let h = c.requires.0.inside in
-    let n = c.items_of.ensures.1.1 in
-    omega arith
-
-pub write_mark-write_text-body-requires : goal.write_mark-write_text-body-requires
-write_mark-write_text-body-requires t c =
-    (opened-held c.args.text c.requires refl (c.delimiter-d.ensures ∙ ap delimiter c.kind_at-kind.ensures) c.put_sign.ensures, one-text-as c.items_of.ensures.0 c.items_of.ensures.1.0 c.items_of.ensures.1.1 (c.is_one_text.ensures c.if-is_one_text.true))
 
 pub write_mark-end_mark-requires : goal.write_mark-end_mark-requires
 write_mark-end_mark-requires t c =

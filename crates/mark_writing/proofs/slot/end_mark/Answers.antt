@@ -11,9 +11,6 @@ returns-then-w c = let s = area-size c.args.w.now in
     let z = c.if-w.true in
     (λ b. mark-full b (omega (arith, s, z)), kept-none _)
 
-pub overflow_cast-depth : goal.overflow_cast-depth
-overflow_cast-depth c = let f = ones-few c.args.mark.mask c.requires.0.ready.slot.small in omega arith
-
 pub overflow_sub-depth : goal.overflow_sub-depth
 overflow_sub-depth c = let f = ones-few c.args.mark.mask c.requires.0.ready.slot.small in omega arith
 
