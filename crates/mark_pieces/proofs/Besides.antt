@@ -1,19 +1,17 @@
 -- Laws of the pieces that stand behind the area that they are written into. Assumes nothing.
 use mathlib.Core.Path.{◌≡◌}
 use mathlib.Core.Bool.{Bool, true, false, ◌&&◌}
-use mathlib.Core.List.{List, [], ◌∷◌, ◌++◌}
+use mathlib.Core.List.{List, [], ◌∷◌}
 use Prim.Native.Nat.{ℕ, ◌-◌, ◌≤◌, ◌<◌}
 use native.Mathlib.Omega.{arith}
 use lib.ListN.{length, take, drop, get_or}
-use lib.Seq.{take_at, drop_at}
 use Rattle.text.specs.Ascii.{is}
 use Rattle.text.specs.Cells.{cells, part, sign}
 use Rattle.text.specs.Writes.{AppendsIn}
 use Rattle.text.proofs.Areas.{appends_in-then, appends_in-as, lifts, apart-cells}
 use Rattle.mark_tags.specs.Marks.{backslash, touching, piece_text}
 use Rattle.mark_tags.specs.Flat.{even_run}
-use Rattle.mark_pieces.specs.Spans.{Finished}
-use Rattle.mark_pieces.specs.Behind.{FinishedIn, escaped_part}
+use Rattle.mark_pieces.specs.Behind.{escaped_part}
 use Rattle.mark_pieces.proofs.Pieces.{unescaped, piece-by}
 
 module _ (bs ns : List ℕ) (a e : ℕ) (h : a < e) (hs : e ≤ length bs) (hn : e ≤ length ns) where
@@ -37,11 +35,3 @@ module _ (bs ns : List ℕ) (a e : ℕ) (h : a < e) (hs : e ≤ length bs) (hn :
       let z₂ : part (e - 1) e (cells bs₁ ns₁) ≡ part (e - 1) e (cells bs ns) = apart-cells (e - 1) e (λ _. omega arith) p in
       let q' : AppendsIn bs₁ ns₁ end at₁ bs₂ ns₂ at₂ (escaped_part b₂ a e (cells bs ns)) = rw (z₁, z₂) at q in
       lifts (appends_in-then p q') (piece-by bs ns a e h hs hn g m b₁ b₂ e₁ e₂ p.appends q'.appends)
-
--- a mark that was finished in the first cells of a longer pair of slices
-pub finished-in : {p at : ℕ} {ss : List ℕ} {c e d before next to : ℕ} {ss' : List ℕ} {br : Bool} (bs ns ys zs : List ℕ) (end : ℕ) → length ys ≡ end → length zs ≡ end
-    → Finished (take end bs) (take end ns) p at ss c e d before next ys zs to ss' br → FinishedIn end bs ns p at ss c e d before next (ys ++ drop end bs) (zs ++ drop end ns) to ss' br
-finished-in bs ns ys zs end ly lz f = record {
-  finished = rw (take_at ys (drop end bs) end ly, take_at zs (drop end ns) end lz) f;
-  behind = record { bytes = drop_at ys (drop end bs) end ly; numbers = drop_at zs (drop end ns) end lz };
-}

@@ -3,3 +3,4 @@ pub mod Pieces
 pub mod Wrapping
 pub mod Listing
 pub mod Besides
+pub mod Areal

@@ -5,7 +5,7 @@ use Rattle.std.specs.Int.{from_bool}
 use mathlib.Core.List.{List, [], ◌∷◌, ◌++◌, append_assoc, map}
 use Prim.Native.Nat.{ℕ, suc, ◌+◌, ◌≤◌, ◌<◌}
 use native.Mathlib.Omega.{arith}
-use lib.ListN.{length, take, drop, get_or, set, length-set, length-append}
+use lib.ListN.{length, take, drop, get_or, set, length-append}
 use lib.Seq.{take-suc, take-set-lt, length-take-le, set_at}
 use Rattle.std.proofs.lemmas.List.{take_all}
 use Rattle.mark_pieces.specs.Spans.{raised}
@@ -13,10 +13,6 @@ use Rattle.mark_pieces.specs.Spans.{raised}
 pub bit-cond : (b : Bool) → from_bool b ≡ cond b 1 0
 bit-cond true = refl
 bit-cond false = refl
-
-pub bit-most : (b : Bool) → from_bool b ≤ 1
-bit-most true = omega arith
-bit-most false = omega arith
 
 -- a loop over numbers that puts f of each in its place, at its end
 pub mapped-all : (f : ℕ → ℕ) (ss₀ ss : List ℕ) (i : ℕ) → length ss ≤ i → length ss ≡ length ss₀ → take i ss ≡ map f (take i ss₀) → ss ≡ map f ss₀
@@ -39,6 +35,3 @@ listed ss ss' c e start end by h k l m =
     rw (take-set-lt e (set ss' c start) (c + 1) end (omega arith), take-set-lt e ss' c start (omega arith), w, set_at (take c ss) (get_or ss c 0) (get_or ss (suc c) 0 ∷ tail) start c n)
     (ap (λ (u : List ℕ). set u (c + 1) end) (sym (append_assoc (take c ss) (start ∷ []) (get_or ss (suc c) 0 ∷ tail)))
     ∙ set_at (take c ss ++ (start ∷ [])) (get_or ss (suc c) 0) tail end (c + 1) y ∙ append_assoc (take c ss) (start ∷ []) (end ∷ tail))
-
-pub second-within : (l : List ℕ) (c start n : ℕ) → length l ≡ n → c + 1 < n → c + 1 < length (set l c start)
-second-within l c start n e h = let z = length-set l c start in omega arith

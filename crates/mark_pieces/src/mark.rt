@@ -2,16 +2,15 @@
 ghost use Rattle.std.specs.Prelude.{◌≡◌, true, ◌≤◌, ◌<◌, ◌∷◌, ◌++◌, length, take, drop, get_or, ◌+◌, ◌-◌};
 ghost use Rattle.text.specs.Ascii.{is};
 ghost use Rattle.text.specs.Bounds.{out_most};
-ghost use Rattle.text.specs.Cells.{cells};
 ghost use Rattle.mark_tags.specs.Marks.{braced, escape_last};
-ghost use Rattle.mark_tags.specs.Flat.{Becomes, behind_brace};
-ghost use Rattle.mark_pieces.specs.Spans.{raised, Raisable, Finishable, Finished};
-ghost use Rattle.mark_pieces.specs.Behind.{FinishedIn};
+ghost use Rattle.mark_tags.specs.Flat.{behind_brace};
+ghost use Rattle.mark_pieces.specs.Spans.{raised, Raisable, Finishable};
+ghost use Rattle.mark_pieces.specs.Behind.{Rewrote, FinishedIn};
 
 use crate::class::is_braced;
 use crate::piece::{insert, is_even};
 use text::WorkAt;
-use text::area::put_sign_in;
+use text::writer::Writer;
 
 // Whether the mark whose body stands from place p up to `end` takes the braced form.
 pub fn takes_braces(buf: &[u8], p: WorkAt, end: WorkAt, d: u8, before: usize, next: usize) -> bool
@@ -27,37 +26,29 @@ pub fn takes_braces(buf: &[u8], p: WorkAt, end: WorkAt, d: u8, before: usize, ne
     )
 }
 
-// Escapes a last `{` of the cells from place p up to `at`.
-pub fn escape_brace(buf: &mut [u8], nums: &mut [u32], p: WorkAt, at: WorkAt) -> WorkAt
-    requires { ((p.0 < at.0) × (at.0 ≤ length buf.old)) × (length buf.old ≤ length nums.old) }
-    ensures { Becomes (escape_last (is "{") true) (cells buf.old nums.old) p.0 at.0 (cells buf.new nums.new) result.0 }
+// Escapes a last `{` of the cells from place p on.
+pub fn escape_brace(w: &mut Writer<'_>, p: WorkAt)
+    requires { (p.0 < w.old.at.0) × (w.old.at.0 ≤ w.old.end) }
+    ensures { Rewrote (escape_last (is "{") true) p.0 w.old w.new }
 {
-    let last = WorkAt(at.0 - 1);
-    if buf[last.0] == b'{' && is_even(&buf[..], p, last) {
-        return insert(buf, nums, last, at, b'\\');
+    let last = WorkAt(w.at.0 - 1);
+    if w.source()[last.0] == b'{' && is_even(w.source(), p, last) {
+        insert(w, last, b'\\');
     }
-    at
 }
 
 // The closing delimiter of a mark that starts at place p with its opening one.
-pub fn close_mark(
-    buf: &mut [u8],
-    nums: &mut [u32],
-    p: WorkAt,
-    at: WorkAt,
-    d: u8,
-    braces: bool,
-) -> WorkAt
-    requires { (p.0 ≤ at.0) × (length buf.old ≤ length nums.old) }
-    ensures { Becomes (behind_brace braces d) (cells buf.old nums.old) p.0 at.0 (cells buf.new nums.new) result.0 }
+pub fn close_mark(w: &mut Writer<'_>, p: WorkAt, d: u8, braces: bool)
+    requires { p.0 ≤ w.old.at.0 }
+    ensures { Rewrote (behind_brace braces d) p.0 w.old w.new }
 {
-    let end = buf.len();
     if braces {
-        let open = insert(buf, nums, p, at, b'{');
-        let shut = put_sign_in(buf, nums, end, open, d);
-        return put_sign_in(buf, nums, end, shut, b'}');
+        insert(w, p, b'{');
+        w.put_sign(d);
+        w.put_sign(b'}');
+    } else {
+        w.put_sign(d);
     }
-    put_sign_in(buf, nums, end, at, d)
 }
 
 // Raises the span numbers from a up to e.
@@ -83,74 +74,40 @@ fn put_span(spans: &mut [u32], c: usize, e: usize, start: usize, end: usize, by:
     }
 }
 
-// A mark whose closing delimiter is still to be written: where it starts and where its body ends, where its span is to be listed and where those
-// inside it end.
+// A mark that is written up to the end of its body: where it starts, where its span is to be listed and where those inside it end.
 #[derive(Clone, Copy)]
 pub struct Body {
     pub start: WorkAt,
-    pub to: WorkAt,
     pub span: usize,
     pub listed: usize,
 }
 
-// Where a mark ends, and whether it took the braced form.
-#[derive(Clone, Copy)]
-pub struct Closed {
-    pub to: WorkAt,
-    pub braces: bool,
-}
-
-// Finishes a mark. Spans that are lent too short for it and for those inside it are not written.
-fn finish(
-    buf: &mut [u8],
-    nums: &mut [u32],
+// Finishes a mark whose body ends at the writer's place; whether it took the braced form. Spans that are lent too short for it and for those inside it
+// are not written.
+pub fn finish_mark(
+    w: &mut Writer<'_>,
     spans: &mut [u32],
     body: Body,
     d: u8,
     before: usize,
     next: usize,
-) -> Closed
-    requires { Finishable buf.old nums.old body.start.0 body.to.0 spans.old body.span body.listed before next }
-    ensures { Finished buf.old nums.old body.start.0 body.to.0 spans.old body.span body.listed d before next buf.new nums.new result.to.0 spans.new result.braces }
+) -> bool
+    requires { Finishable (take w.old.end w.old.bytes.now) (take w.old.end w.old.numbers.now) body.start.0 w.old.at.0 spans.old body.span body.listed before next }
+    ensures { FinishedIn w.old body.start.0 spans.old body.span body.listed d before next w.new spans.new result }
 {
     let first = WorkAt(body.start.0 + 1);
-    let braces = takes_braces(&buf[..], first, body.to, d, before, next);
-    let escaped = escape_brace(buf, nums, first, body.to);
-    let to = close_mark(buf, nums, body.start, escaped, d, braces);
-    if to.0 <= buf.len() {
+    let braces = takes_braces(w.source(), first, w.at, d, before, next);
+    escape_brace(w, first);
+    close_mark(w, body.start, d, braces);
+    if w.fits() {
         put_span(
             spans,
             body.span,
             body.listed,
             body.start.0,
-            to.0,
+            w.at.0,
             u32::from(braces),
         );
     }
-    Closed { to, braces }
-}
-
-// The same in the area before `end`.
-pub fn finish_mark(
-    buf: &mut [u8],
-    nums: &mut [u32],
-    end: usize,
-    spans: &mut [u32],
-    body: Body,
-    d: u8,
-    before: usize,
-    next: usize,
-) -> Closed
-    requires { Finishable (take end buf.old) (take end nums.old) body.start.0 body.to.0 spans.old body.span body.listed before next × ((end ≤ length buf.old) × (end ≤ length nums.old)) }
-    ensures { FinishedIn end buf.old nums.old body.start.0 body.to.0 spans.old body.span body.listed d before next buf.new nums.new result.to.0 spans.new result.braces }
-{
-    finish(
-        &mut buf[..end],
-        &mut nums[..end],
-        spans,
-        body,
-        d,
-        before,
-        next,
-    )
+    braces
 }

@@ -1,15 +1,15 @@
-// Writing a text piece, which stands in the same pair of slices behind the area that it is written into; and putting a byte before what is written.
+// Writing a text piece, which stands in the writer's pair of slices behind its area; and putting a byte before what is written.
 ghost use Rattle.std.specs.Prelude.{◌≡◌, true, ◌&&◌, ◌-◌, ◌≤◌, ◌<◌, length, take, drop, get_or};
 ghost use Rattle.text.specs.Cells.{cells, part, sign};
-ghost use Rattle.text.specs.Writes.{AppendsIn};
+ghost use Rattle.text.specs.Writers.{Wrote};
 ghost use Rattle.mark_tags.specs.Marks.{touching, backslash, piece_text};
 ghost use Rattle.mark_tags.specs.Flat.{even_run, Inserts};
-ghost use Rattle.mark_pieces.specs.Behind.{escaped_part};
+ghost use Rattle.mark_pieces.specs.Behind.{escaped_part, area, Kept};
 
 use text::WorkAt;
-use text::area::{copy_back, put_sign_in};
 use text::bounds::FULL;
 use text::cell::RULE_SIGN;
+use text::writer::Writer;
 
 // Whether an even number of backslashes stands at the end of the bytes from a up to e.
 pub fn is_even(s: &[u8], a: WorkAt, e: WorkAt) -> bool
@@ -32,36 +32,26 @@ pub fn is_touching(touches: bool, b: u8) -> bool
 }
 
 // Appends a backslash, or nothing.
-fn put_backslash(buf: &mut [u8], nums: &mut [u32], end: usize, at: WorkAt, yes: bool) -> WorkAt
-    requires { (end ≤ length buf.old) × (end ≤ length nums.old) }
-    ensures { AppendsIn buf.old nums.old end at.0 buf.new nums.new result.0 (backslash yes) }
+fn put_backslash(w: &mut Writer<'_>, yes: bool)
+    ensures { Wrote w.old w.new (backslash yes) }
 {
     if yes {
-        return put_sign_in(buf, nums, end, at, b'\\');
+        w.put_sign(b'\\');
     }
-    at
 }
 
 // Appends the cells from a up to e, with a backslash before the last or without; without one, all of them at once.
-fn copy_escaped(
-    buf: &mut [u8],
-    nums: &mut [u32],
-    a: WorkAt,
-    e: WorkAt,
-    escape: bool,
-    end: usize,
-    at: WorkAt,
-) -> WorkAt
-    requires { ((a.0 < e.0) × (end ≤ a.0)) × ((e.0 ≤ length buf.old) × (e.0 ≤ length nums.old)) }
-    ensures { AppendsIn buf.old nums.old end at.0 buf.new nums.new result.0 (escaped_part escape a.0 e.0 (cells buf.old nums.old)) }
+fn copy_escaped(w: &mut Writer<'_>, a: WorkAt, e: WorkAt, escape: bool)
+    requires { ((a.0 < e.0) × (w.old.end ≤ a.0)) × ((e.0 ≤ length w.old.bytes.now) × (e.0 ≤ length w.old.numbers.now)) }
+    ensures { Wrote w.old w.new (escaped_part escape a.0 e.0 (cells w.old.bytes.now w.old.numbers.now)) }
 {
     if escape {
         let last = WorkAt(e.0 - 1);
-        let front = copy_back(buf, nums, a, last, end, at);
-        let behind = put_sign_in(buf, nums, end, front, b'\\');
-        copy_back(buf, nums, last, e, end, behind)
+        w.copy_back(a, last);
+        w.put_sign(b'\\');
+        w.copy_back(last, e);
     } else {
-        copy_back(buf, nums, a, e, end, at)
+        w.copy_back(a, e);
     }
 }
 
@@ -74,37 +64,38 @@ fn escapes_last(src: &[u8], a: WorkAt, last: WorkAt, touches: bool) -> bool
     touches && is_touching(true, src[last.0]) && is_even(src, a, last)
 }
 
-// Appends a text piece that is not empty.
-pub fn write_piece(
-    buf: &mut [u8],
-    nums: &mut [u32],
-    a: WorkAt,
-    e: WorkAt,
-    guarded: bool,
-    touches: bool,
-    end: usize,
-    at: WorkAt,
-) -> WorkAt
-    requires { ((a.0 < e.0) × (end ≤ a.0)) × ((e.0 ≤ length buf.old) × (e.0 ≤ length nums.old)) }
-    ensures { AppendsIn buf.old nums.old end at.0 buf.new nums.new result.0 (piece_text guarded touches (part a.0 e.0 (cells buf.old nums.old))) }
+// Appends a text piece that is not empty, and that stands behind the area.
+pub fn write_piece(w: &mut Writer<'_>, a: WorkAt, e: WorkAt, guarded: bool, touches: bool)
+    requires { ((a.0 < e.0) × (w.old.end ≤ a.0)) × ((e.0 ≤ length w.old.bytes.now) × (e.0 ≤ length w.old.numbers.now)) }
+    ensures { Wrote w.old w.new (piece_text guarded touches (part a.0 e.0 (cells w.old.bytes.now w.old.numbers.now))) }
 {
-    let escape = escapes_last(&buf[..], a, WorkAt(e.0 - 1), touches);
-    let guards = guarded & (buf[a.0] == b'}');
-    let start = put_backslash(buf, nums, end, at, guards);
-    copy_escaped(buf, nums, a, e, escape, end, start)
+    let src = w.source();
+    let escape = escapes_last(src, a, WorkAt(e.0 - 1), touches);
+    let guards = guarded & (src[a.0] == b'}');
+    put_backslash(w, guards);
+    copy_escaped(w, a, e, escape);
 }
 
-// Puts a byte that a rule writes before the cells from place p on, of a text that ends at `at`.
-pub fn insert(buf: &mut [u8], nums: &mut [u32], p: WorkAt, at: WorkAt, b: u8) -> WorkAt
-    requires { (length buf.old ≤ length nums.old) × (p.0 ≤ at.0) }
-    ensures { Inserts (cells buf.old nums.old) p.0 at.0 (cells buf.new nums.new) result.0 (sign b) }
+// Puts a byte that a rule writes before the cells from place p on, of a text that ends at `at` in a whole pair of slices.
+fn insert_at(bytes: &mut [u8], numbers: &mut [u32], p: WorkAt, at: WorkAt, b: u8) -> WorkAt
+    requires { (length bytes.old ≤ length numbers.old) × (p.0 ≤ at.0) }
+    ensures { Inserts (cells bytes.old numbers.old) p.0 at.0 (cells bytes.new numbers.new) result.0 (sign b) }
 {
-    if buf.len() <= at.0 {
+    if bytes.len() <= at.0 {
         return WorkAt(FULL);
     }
-    buf.copy_within(p.0..at.0, p.0 + 1);
-    nums.copy_within(p.0..at.0, p.0 + 1);
-    buf[p.0] = b;
-    nums[p.0] = RULE_SIGN;
+    bytes.copy_within(p.0..at.0, p.0 + 1);
+    numbers.copy_within(p.0..at.0, p.0 + 1);
+    bytes[p.0] = b;
+    numbers[p.0] = RULE_SIGN;
     WorkAt(at.0 + 1)
+}
+
+// The same in a writer's area.
+pub fn insert(w: &mut Writer<'_>, p: WorkAt, b: u8)
+    requires { p.0 ≤ w.old.at.0 }
+    ensures { Inserts (area w.old) p.0 w.old.at.0 (area w.new) w.new.at.0 (sign b) × Kept w.old w.new }
+{
+    let end = w.end;
+    w.at = insert_at(&mut w.bytes[..end], &mut w.numbers[..end], p, w.at, b);
 }

@@ -1,4 +1,4 @@
--- Laws of writing into an area of work memory, where the text and its items stand behind it. Assumes nothing.
+-- Laws of writing into a writer's area, where the text and its items stand behind it. Assumes nothing.
 use mathlib.Core.Path.{◌≡◌, refl, sym, ap, ◌∙◌, subst}
 use mathlib.Core.List.{List}
 use mathlib.Core.Bool.{Bool, false}
@@ -7,14 +7,17 @@ use native.Mathlib.Omega.{arith}
 use lib.ListN.{length, take, drop, get_or, length-drop}
 use lib.Seq.{take_all, take-take, drop-drop, length-take-le}
 use Rattle.text.specs.Cells.{Cell, cells, part}
-use Rattle.text.specs.Writes.{Appends, AppendsIn}
+use Rattle.text.specs.Writes.{Appends}
+use Rattle.text.specs.Writers.{Wrote}
+use Rattle.text.specs.declared.writer.Writer.{Writer}
 use Rattle.text.proofs.Areas.{drop-take}
 use Rattle.text.proofs.Sources.{cells-taken, cells-dropped}
 use Rattle.mark_tags.specs.Marks.{Items, Next, text, next, piece_text, last_or, absent}
 use Rattle.mark_tags.specs.Flat.{bound_at, within, depth_of, slot_at, Held, Ready}
 use Rattle.mark_pieces.specs.Spans.{Slot, SlotWritten, MarkReady, MarkWritten}
-use Rattle.mark_pieces.specs.Behind.{Behind}
-use Rattle.mark_writing.specs.Laid.{source, table, area, Lies, TableIn, HeldIn}
+use Rattle.mark_pieces.specs.Behind.{area, Kept}
+use Rattle.mark_pieces.proofs.Areal.{area-size, area-wide, wrote-kept, wrote-area}
+use Rattle.mark_writing.specs.Laid.{source, table, Lies, TableIn, HeldIn}
 use Rattle.mark_writing.specs.Looked.{Skips, skips-gone, skips-nothing, skips-empty, Piece, Looked}
 use Rattle.mark_writing.specs.OneText.{OneText}
 use Rattle.mark_writing.specs.declared.look.Seen.{Seen}
@@ -26,81 +29,80 @@ use Rattle.mark_writing.proofs.MarkWriting.{last-piece, cells-kept}
 
 -- ---- what stands behind the area
 
-pub behind-none : (end : ℕ) (bs ns : List ℕ) → Behind end bs ns bs ns
-behind-none end bs ns = record { bytes = refl; numbers = refl }
-
-pub behind-then : {end : ℕ} {bs ns bs₁ ns₁ bs₂ ns₂ : List ℕ} → Behind end bs ns bs₁ ns₁ → Behind end bs₁ ns₁ bs₂ ns₂ → Behind end bs ns bs₂ ns₂
-behind-then p q = record { bytes = q.bytes ∙ p.bytes; numbers = q.numbers ∙ p.numbers }
-
-pub behind-appends : {bs ns bs' ns' : List ℕ} {end at r : ℕ} {t : List Cell} → AppendsIn bs ns end at bs' ns' r t → Behind end bs ns bs' ns'
-behind-appends p = record { bytes = p.bytes-behind; numbers = p.numbers-behind }
-
 later : (end base : ℕ) (xs xs' : List ℕ) → end ≤ base → drop end xs' ≡ drop end xs → drop base xs' ≡ drop base xs
 later end base xs xs' h e =
     let y : end + (base - end) ≡ base = omega arith in
     ap (λ (j : ℕ). drop j xs') (sym y) ∙ sym (drop-drop (base - end) end xs') ∙ ap (drop (base - end)) e ∙ drop-drop (base - end) end xs ∙ ap (λ (j : ℕ). drop j xs) y
 
-module _ {bs ns bs' ns' : List ℕ} (w : Layout) (h : w.end ≤ w.base.0) (p : Behind w.end bs ns bs' ns') where
-  pub same_source : source w bs' ≡ source w bs
-  same_source = ap (take (w.base.0 + w.size - w.base.0)) (later w.end w.base.0 bs bs' h p.bytes)
+module _ {w w' : Writer} (x : Layout) (h : w.end ≤ x.base.0) (p : Kept w w') where
+  pub same_source : source x w'.bytes.now ≡ source x w.bytes.now
+  same_source = ap (take (x.base.0 + x.size - x.base.0)) (later w.end x.base.0 w.bytes.now w'.bytes.now h p.behind.bytes)
 
-  pub same-table : table w ns' ≡ table w ns
-  same-table = later w.end w.base.0 ns ns' h p.numbers
+  pub same-table : table x w'.numbers.now ≡ table x w.numbers.now
+  same-table = later w.end x.base.0 w.numbers.now w'.numbers.now h p.behind.numbers
 
-pub area-appends : {bs ns bs' ns' : List ℕ} {end at r : ℕ} {t : List Cell} → AppendsIn bs ns end at bs' ns' r t → Appends (cells (take end bs) (take end ns)) at (cells (take end bs') (take end ns')) r t
-area-appends {bs} {ns} {bs'} {ns'} {end} p = rw (cells-taken end bs ns, cells-taken end bs' ns') p.appends
+-- the area stays as long
+module _ {w w' : Writer} (p : Kept w w') where
+  pub bytes_same : length (take w'.end w'.bytes.now) ≡ length (take w.end w.bytes.now)
+  bytes_same = area-size w' ∙ p.same.end ∙ sym (area-size w)
 
-pub area_same : (end : ℕ) (xs xs' : List ℕ) → end ≤ length xs → length xs' ≡ length xs → length (take end xs') ≡ length (take end xs)
-area_same end xs xs' h e = length-take-le end xs' (omega arith) ∙ sym (length-take-le end xs h)
+  pub numbers_same : length (take w'.end w'.numbers.now) ≡ length (take w.end w.numbers.now)
+  numbers_same = length-take-le w'.end w'.numbers.now w'.numbers_reach ∙ p.same.end ∙ sym (length-take-le w.end w.numbers.now w.numbers_reach)
 
-pub area-cells : (end : ℕ) (bs ns bs' ns' : List ℕ) → end ≤ length bs → end ≤ length ns → length bs' ≡ length bs → length ns' ≡ length ns → length (cells (take end bs') (take end ns')) ≡ length (cells (take end bs) (take end ns))
-area-cells end bs ns bs' ns' hb hn e f =
-    cells-kept (take end bs) (take end ns) (take end bs') (take end ns') (area_same end bs bs' hb e) (area_same end ns ns' hn f) (let x = length-take-le end bs hb in let y = length-take-le end ns hn in omega arith)
+  pub area_same : length (area w') ≡ length (area w)
+  area_same = cells-kept (take w.end w.bytes.now) (take w.end w.numbers.now) (take w'.end w'.bytes.now) (take w'.end w'.numbers.now) bytes_same numbers_same (area-wide w)
 
 -- ---- the text and its items
 
-pub source-size : (w : Layout) (bs : List ℕ) → Lies w (length bs) → length (source w bs) ≡ w.size
-source-size w bs l =
+pub source-size : (x : Layout) (w : Writer) → Lies x w → length (source x w.bytes.now) ≡ x.size
+source-size x w l =
     let i = l.inside in
-    let d = length-drop w.base.0 bs in
-    let z : w.base.0 + w.size - w.base.0 ≡ w.size = omega arith in
-    length-take-le (w.base.0 + w.size - w.base.0) (drop w.base.0 bs) (omega (arith, d, i)) ∙ z
+    let d = length-drop x.base.0 w.bytes.now in
+    let z : x.base.0 + x.size - x.base.0 ≡ x.size = omega arith in
+    length-take-le (x.base.0 + x.size - x.base.0) (drop x.base.0 w.bytes.now) (omega (arith, d, i)) ∙ z
 
--- where nothing but the bytes themselves has changed
-pub lies-on : {w : Layout} {m m' : ℕ} → Lies w m → m' ≡ m → Lies w m'
-lies-on {w} l e = let i = l.inside in record { behind = l.behind; inside = omega (arith, i, e); near = l.near }
+-- where nothing behind the area has changed
+pub lies-on : {x : Layout} {w w' : Writer} → Lies x w → Kept w w' → Lies x w'
+lies-on {x} l p =
+    let b = l.behind in
+    let i = l.inside in
+    let s = p.same.bytes-size in
+    let e = p.same.end in
+    record { behind = omega (arith, b, e); inside = omega (arith, i, s); near = l.near }
 
-pub table-in : (w : Layout) (bs ns : List ℕ) → HeldIn w bs ns → TableIn w ns
-table-in w bs ns t =
-    let n = source-size w bs t.1 in
-    let d = length-drop w.base.0 ns in
+pub table-in : (x : Layout) (w : Writer) → HeldIn x w → TableIn x w.numbers.now
+table-in x w t =
+    let n = source-size x w t.1 in
+    let d = length-drop x.base.0 w.numbers.now in
     let s = t.0.small in
     let r = t.0.room in
     let f = t.0.few in
     record { small = omega (arith, n, s); room = omega (arith, n, d, r); few = omega (arith, n, f) }
 
 -- the cells of a part of the text
-pub source-part : (w : Layout) (bs ns : List ℕ) (a e : ℕ) → e ≤ w.size → part (w.base.0 + a) (w.base.0 + e) (cells bs ns) ≡ part a e (cells (source w bs) (table w ns))
+pub source-part : (x : Layout) (bs ns : List ℕ) (a e : ℕ) → e ≤ x.size → part (x.base.0 + a) (x.base.0 + e) (cells bs ns) ≡ part a e (cells (source x bs) (table x ns))
 unfolding part
-source-part w bs ns a e h =
-    let base : ℕ = w.base.0 in
-    let n : ℕ = base + w.size - base in
-    let x : base + e - (base + a) ≡ e - a = omega arith in
+source-part x bs ns a e h =
+    let base : ℕ = x.base.0 in
+    let n : ℕ = base + x.size - base in
+    let u : base + e - (base + a) ≡ e - a = omega arith in
     let v : List Cell = cells bs ns in
     let k : e ≤ n = omega arith in
-    let y : take e (cells (source w bs) (table w ns)) ≡ take e (drop base v) =
-    sym (cells-taken e (source w bs) (table w ns)) ∙ ap (λ (l : List ℕ). cells l (take e (table w ns))) (take-take e n (drop base bs) k)
+    let y : take e (cells (source x bs) (table x ns)) ≡ take e (drop base v) =
+    sym (cells-taken e (source x bs) (table x ns)) ∙ ap (λ (l : List ℕ). cells l (take e (table x ns))) (take-take e n (drop base bs) k)
     ∙ cells-taken e (drop base bs) (drop base ns) ∙ ap (take e) (cells-dropped base bs ns) in
-    drop-take (base + a) (base + e) v ∙ ap (λ (j : ℕ). take j (drop (base + a) v)) x ∙ ap (take (e - a)) (sym (drop-drop a base v)) ∙ sym (drop-take a e (drop base v))
+    drop-take (base + a) (base + e) v ∙ ap (λ (j : ℕ). take j (drop (base + a) v)) u ∙ ap (take (e - a)) (sym (drop-drop a base v)) ∙ sym (drop-take a e (drop base v))
     ∙ ap (drop a) (sym y)
 
-pub piece-area : {bs ns bs' ns' : List ℕ} {at r : ℕ} (w : Layout) (g m : Bool) (a e a' e' : ℕ) (src tbl : List ℕ) → source w bs ≡ src → table w ns ≡ tbl → a' ≡ w.base.0 + a → e' ≡ w.base.0 + e → e ≤ w.size
-    → AppendsIn bs ns w.end at bs' ns' r (piece_text g m (part a' e' (cells bs ns))) → Appends (area w bs ns) at (area w bs' ns') r (piece_text g m (part a e (cells src tbl)))
-piece-area {bs} {ns} {bs'} {ns'} {at} {r} w g m a e a' e' src tbl zs zt ea ee h p =
+pub piece-area : {w w' : Writer} (x : Layout) (g m : Bool) (a e a' e' : ℕ) (src tbl : List ℕ) → source x w.bytes.now ≡ src → table x w.numbers.now ≡ tbl → a' ≡ x.base.0 + a → e' ≡ x.base.0 + e → e ≤ x.size
+    → Wrote w w' (piece_text g m (part a' e' (cells w.bytes.now w.numbers.now))) → Appends (area w) w.at.0 (area w') w'.at.0 (piece_text g m (part a e (cells src tbl)))
+piece-area {w} {w'} x g m a e a' e' src tbl zs zt ea ee h p =
+    let bs : List ℕ = w.bytes.now in
+    let ns : List ℕ = w.numbers.now in
     let z : part a' e' (cells bs ns) ≡ part a e (cells src tbl) =
-    ap (λ (j : ℕ). part j e' (cells bs ns)) ea ∙ ap (λ (j : ℕ). part (w.base.0 + a) j (cells bs ns)) ee ∙ source-part w bs ns a e h
-    ∙ ap (λ (l : List ℕ). part a e (cells l (table w ns))) zs ∙ ap (λ (l : List ℕ). part a e (cells src l)) zt in
-    subst (λ (l : List Cell). Appends (area w bs ns) at (area w bs' ns') r (piece_text g m l)) z (area-appends p)
+    ap (λ (j : ℕ). part j e' (cells bs ns)) ea ∙ ap (λ (j : ℕ). part (x.base.0 + a) j (cells bs ns)) ee ∙ source-part x bs ns a e h
+    ∙ ap (λ (l : List ℕ). part a e (cells l (table x ns))) zs ∙ ap (λ (l : List ℕ). part a e (cells src l)) zt in
+    subst (λ (l : List Cell). Appends (area w) w.at.0 (area w') w'.at.0 (piece_text g m l)) z (wrote-area p)
 
 -- ---- the same of equal texts and items
 
@@ -179,19 +181,31 @@ module _ (src ns : List ℕ) (k from mask : ℕ) (v₀ : List Cell) (at₀ : ℕ
 
 -- ---- a slot that is one text
 
-pub text_in : {bs ns bs' ns' : List ℕ} {at r : ℕ} (w : Layout) (from a e a' e' c : ℕ) → HeldIn w bs ns → OneText (source w bs) (table w ns) w.items from
-    → a ≡ get_or (table w ns) (w.size + from) 0 → e ≡ get_or (table w ns) (w.size + (from + 1)) 0 → a' ≡ w.base.0 + a → e' ≡ w.base.0 + e → AppendsIn bs ns w.end at bs' ns' r (part a' e' (cells bs ns))
-    → ((ss : List ℕ) → SlotWritten (source w bs) (table w ns) w.items from (area w bs ns) at ss c (area w bs' ns') r ss c (from + 2)) × Behind w.end bs ns bs' ns'
-text_in {bs} {ns} {bs'} {ns'} {at} {r} w from a e a' e' c t o f g ea ee p =
-    let n = source-size w bs t.1 in
-    let src : List ℕ = source w bs in
-    let tbl : List ℕ = table w ns in
+-- where it stands in the text
+pub text-places : {a e : ℕ} (x : Layout) (w : Writer) (from : ℕ) → HeldIn x w → OneText (source x w.bytes.now) (table x w.numbers.now) x.items from
+    → a ≡ get_or (table x w.numbers.now) (x.size + from) 0 → e ≡ get_or (table x w.numbers.now) (x.size + (from + 1)) 0 → (a ≤ e) × (e ≤ x.size)
+text-places x w from t o f g =
+    let n = source-size x w t.1 in
+    let q = in_source (source x w.bytes.now) (table x w.numbers.now) x.items from t.0 o in
+    let f' = f ∙ ap (λ (j : ℕ). get_or (table x w.numbers.now) (j + from) 0) (sym n) in
+    let g' = g ∙ ap (λ (j : ℕ). get_or (table x w.numbers.now) (j + (from + 1)) 0) (sym n) in
+    (omega (arith, q.0, f', g'), omega (arith, q.1.0, g', n))
+
+pub text_in : {w w' : Writer} (x : Layout) (from a e a' e' c : ℕ) → HeldIn x w → OneText (source x w.bytes.now) (table x w.numbers.now) x.items from
+    → a ≡ get_or (table x w.numbers.now) (x.size + from) 0 → e ≡ get_or (table x w.numbers.now) (x.size + (from + 1)) 0 → a' ≡ x.base.0 + a → e' ≡ x.base.0 + e → Wrote w w' (part a' e' (cells w.bytes.now w.numbers.now))
+    → ((ss : List ℕ) → SlotWritten (source x w.bytes.now) (table x w.numbers.now) x.items from (area w) w.at.0 ss c (area w') w'.at.0 ss c (from + 2)) × Kept w w'
+text_in {w} {w'} x from a e a' e' c t o f g ea ee p =
+    let bs : List ℕ = w.bytes.now in
+    let ns : List ℕ = w.numbers.now in
+    let n = source-size x w t.1 in
+    let src : List ℕ = source x bs in
+    let tbl : List ℕ = table x ns in
     let f' : a ≡ get_or tbl (length src + from) 0 = f ∙ ap (λ (j : ℕ). get_or tbl (j + from) 0) (sym n) in
     let g' : e ≡ get_or tbl (length src + (from + 1)) 0 = g ∙ ap (λ (j : ℕ). get_or tbl (j + (from + 1)) 0) (sym n) in
-    let q = (in_source src tbl w.items from t.0 o).1.0 in
+    let q = (in_source src tbl x.items from t.0 o).1.0 in
     let z : part a' e' (cells bs ns) ≡ part (get_or tbl (length src + from) 0) (get_or tbl (length src + (from + 1)) 0) (cells src tbl) =
-    ap (λ (j : ℕ). part j e' (cells bs ns)) ea ∙ ap (λ (j : ℕ). part (w.base.0 + a) j (cells bs ns)) ee ∙ source-part w bs ns a e (omega (arith, q, g', n))
-    ∙ ap (λ (x : ℕ). part x e (cells src tbl)) f' ∙ ap (λ (y : ℕ). part (get_or tbl (length src + from) 0) y (cells src tbl)) g' in (
-      λ ss. text-written src tbl w.items from t.0 o ss c (subst (λ (x : List Cell). Appends (area w bs ns) at (area w bs' ns') r x) z (area-appends p)),
-      behind-appends p,
+    ap (λ (j : ℕ). part j e' (cells bs ns)) ea ∙ ap (λ (j : ℕ). part (x.base.0 + a) j (cells bs ns)) ee ∙ source-part x bs ns a e (omega (arith, q, g', n))
+    ∙ ap (λ (y : ℕ). part y e (cells src tbl)) f' ∙ ap (λ (y : ℕ). part (get_or tbl (length src + from) 0) y (cells src tbl)) g' in (
+      λ ss. text-written src tbl x.items from t.0 o ss c (subst (λ (y : List Cell). Appends (area w) w.at.0 (area w') w'.at.0 y) z (wrote-area p)),
+      wrote-kept p,
     )

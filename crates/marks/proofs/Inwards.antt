@@ -8,12 +8,14 @@ use lib.Seq.{length-take-le}
 use Rattle.text.specs.Bounds.{text_most}
 use Rattle.text.specs.Cells.{cells, part}
 use Rattle.text.specs.Writes.{cut}
+use Rattle.text.specs.declared.writer.Writer.{Writer}
 use Rattle.text.proofs.Sources.{cells-taken, cells-part, then, back_is, front-is}
 use Rattle.mark_tags.specs.Marks.{marks}
 use Rattle.mark_tags.specs.Flat.{Itemed}
 use Rattle.mark_pieces.specs.Spans.{Writes, Slot, SlotWritten}
+use Rattle.mark_pieces.specs.Behind.{area}
 use Rattle.mark_writing.proofs.Inwards.{tail-is}
-use Rattle.marks.specs.Passed.{MarksRoom}
+use Rattle.marks.specs.Passed.{MarksRoom, MarksWritten}
 use Rattle.marks.proofs.Passing.{cells-take, pass-slot, pass-writes}
 
 -- ys: the numbers from `base` on, with the items of the text
@@ -63,7 +65,7 @@ module _ (bs ns ys : List ℕ) (n base end k : ℕ) (room : MarksRoom n base end
       subst (λ (table : List ℕ). Slot src table k 0 0 (take end bs) (take end (then ns ys base le)) 0) (sym (back_is ns ys base le))
       (pass-slot src (cut base (length ns) ns) ys k small enough t (take end bs) (take end (then ns ys base le)) (omega (arith, x, e)) (omega (arith, x, f, y)))
 
-  pub placed-writes : {ss ss' : List ℕ} {to c item : ℕ} (bs' ns' : List ℕ) → SlotWritten src (drop base (then ns ys base le)) k 0 (cells (take end bs) (take end (then ns ys base le))) 0 ss 0 (cells (take end bs') (take end ns')) to ss' c item
+  placed-writes : {ss ss' : List ℕ} {to c item : ℕ} (bs' ns' : List ℕ) → SlotWritten src (drop base (then ns ys base le)) k 0 (cells (take end bs) (take end (then ns ys base le))) 0 ss 0 (cells (take end bs') (take end ns')) to ss' c item
       → Writes (take end (cells bs ns)) 0 ss 0 (take end (cells bs' ns')) to ss' c (marks (part base (base + n) (cells bs ns)))
   placed-writes {ss} {ss'} {to} {c} {item} bs' ns' w =
       let h = room.1.0.0 in
@@ -71,3 +73,14 @@ module _ (bs ns ys : List ℕ) (n base end k : ℕ) (room : MarksRoom n base end
       subst (λ (table : List ℕ). SlotWritten src table k 0 (cells (take end bs) (take end (then ns ys base le))) 0 ss 0 (cells (take end bs') (take end ns')) to ss' c item) (back_is ns ys base le) w in
       let v : cells (take end bs) (take end (then ns ys base le)) ≡ take end (cells bs ns) = ap (cells (take end bs)) (front-is ns ys base le end h) ∙ cells-taken end bs ns in
       rw (← v, ← cells-taken end bs' ns', ← whole) (pass-writes src (cut base (length ns) ns) ys k small enough t w₁)
+
+  -- what the writer has left stands in the slices that it held
+  pub placed-done : (w' : Writer) {ss ss' bs' ns' : List ℕ} {c item : ℕ} → bs' ≡ w'.bytes.now → ns' ≡ w'.numbers.now → w'.end ≡ end
+      → SlotWritten src (drop base (then ns ys base le)) k 0 (cells (take end bs) (take end (then ns ys base le))) 0 ss 0 (area w') w'.at.0 ss' c item → drop end w'.bytes.now ≡ drop end bs
+      → MarksWritten bs ns ss n base end bs' ns' w'.at.0 ss' c
+  placed-done w' {ss} {ss'} {c = c} {item = item} e f g s d =
+      rw (e, f) (record {
+        wrote = placed-writes w'.bytes.now w'.numbers.now
+            (subst (λ (z : ℕ). SlotWritten src (drop base (then ns ys base le)) k 0 (cells (take end bs) (take end (then ns ys base le))) 0 ss 0 (cells (take z w'.bytes.now) (take z w'.numbers.now)) w'.at.0 ss' c item) g s);
+        bytes-behind = d;
+      })

@@ -1,19 +1,54 @@
-use mathlib.Core.Path.{sym, ◌∙◌}
-use lib.Seq.{length-take-le}
-use Rattle.mark_pieces.proofs.Besides.{finished-in}
+use native.Mathlib.Omega.{arith}
+use mathlib.Core.Path.{sym, ap, ◌∙◌}
+use borrow.Author.Tests.{leb-false}
+use Prim.Native.Nat.{ℕ, ◌+◌}
+use mathlib.Core.List.{◌∷◌, ◌++◌}
+use lib.ListN.{take, drop}
+use Rattle.mark_pieces.specs.Spans.{raised}
+use Rattle.mark_pieces.proofs.Areal.{kept-then, area-size, form-in}
+use Rattle.mark_pieces.proofs.Listing.{bit-cond}
+use Rattle.mark_pieces.proofs.Wrapping.{closes-step, closes-keeps}
 use Rattle.mark_pieces.proofs.mark.finish_mark.Goals as goal
 
-pub slice_bounds-finish-end-2 : goal.slice_bounds-finish-end-2
-slice_bounds-finish-end-2 c = sym (length-take-le c.args.end c.args.buf.now c.requires.1.0)
+pub returns-then-fits : goal.returns-then-fits
+returns-then-fits c = let a = c.args in
+    let form = c.takes_braces-braces in
+    let escaped = c.escape_brace.ensures in
+    let closed = c.close_mark.ensures in
+    let g₁ = escaped.text.grows in
+    let g₂ = closed.text.grows in
+    let s = area-size a.w.now in
+    let p = c.requires.0.0 in
+    record {
+      finished = record {
+        form = form-in a.w.now c.source.ensures a.d a.before a.next (a.body.start.0 + 1) a.w.now.at.0 p.0 (omega (arith, p.1, s)) form.ensures;
+        step = closes-step form.result a.d escaped.text closed.text;
+        keeps = closes-keeps form.result a.d escaped.text closed.text;
+        grows = omega (arith, g₁, g₂);
+        spans = λ h r. c.put_span.ensures r ∙ ap (λ (by : ℕ). take a.body.span a.spans.now ++ (a.body.start.0 ∷ c.close_mark.new.w.at.0 ∷ raised by (drop (a.body.span + 2) (take a.body.listed a.spans.now)))) (c.from.ensures ∙ bit-cond form.result);
+      };
+      kept = kept-then escaped.kept closed.kept;
+    }
 
-pub slice_bounds-finish-end-4 : goal.slice_bounds-finish-end-4
-slice_bounds-finish-end-4 c = sym (length-take-le c.args.end c.args.nums.now c.requires.1.1)
-
-pub finish-requires : goal.finish-requires
-finish-requires c = c.requires.0
-
-pub returns : goal.returns
-returns c = let m = c.finish in
-    let x = length-take-le c.args.end c.args.buf.now c.requires.1.0 in
-    let y = length-take-le c.args.end c.args.nums.now c.requires.1.1 in
-    finished-in c.args.buf.now c.args.nums.now _ _ c.args.end (m.auto.buf ∙ x) (m.auto.nums ∙ y) m.ensures
+pub returns-else-fits : goal.returns-else-fits
+returns-else-fits c = let a = c.args in
+    let form = c.takes_braces-braces in
+    let escaped = c.escape_brace.ensures in
+    let closed = c.close_mark.ensures in
+    let g₁ = escaped.text.grows in
+    let g₂ = closed.text.grows in
+    let s = area-size a.w.now in
+    let p = c.requires.0.0 in
+    let e₁ = escaped.kept.same.end in
+    let e₂ = closed.kept.same.end in
+    let z = leb-false _ _ (sym c.fits.ensures ∙ c.if-fits.false) in
+    record {
+      finished = record {
+        form = form-in a.w.now c.source.ensures a.d a.before a.next (a.body.start.0 + 1) a.w.now.at.0 p.0 (omega (arith, p.1, s)) form.ensures;
+        step = closes-step form.result a.d escaped.text closed.text;
+        keeps = closes-keeps form.result a.d escaped.text closed.text;
+        grows = omega (arith, g₁, g₂);
+        spans = λ h r. absurd (omega (arith, h, z, s, e₁, e₂));
+      };
+      kept = kept-then escaped.kept closed.kept;
+    }

@@ -1,31 +1,26 @@
-use borrow.Author.Rules.{rules}
 use native.Mathlib.Omega.{arith}
-use mathlib.Core.Path.{◌≡◌, sym, ap, ◌∙◌}
-use Prim.Native.Nat.{ℕ, ◌+◌}
-use lib.ListN.{length, get_or}
-use lib.ListN.{drop}
-use Rattle.text.specs.Writes.{cut}
-use Rattle.mark_writing.proofs.OneTextLaws.{in_source}
-use Rattle.mark_writing.proofs.Inwards.{source-size, table-in, text_in}
+use mathlib.Core.Path.{refl}
+use Rattle.mark_writing.proofs.Inwards.{table-in, text-places, text_in}
 use Rattle.mark_writing.proofs.slot.write_text.Goals as goal
 
-pub bound_at-requires : goal.bound_at-requires
-bound_at-requires c = let a = c.args in let t = table-in a.w a.work.now a.numbers.now c.requires.0 in let i = c.requires.1.inside in let fw = t.few in let sm = t.small in let rm = t.room in (t, omega arith)
-
 pub in_work-a-requires : goal.in_work-a-requires
-in_work-a-requires c = let a = c.args in let t = table-in a.w a.work.now a.numbers.now c.requires.0 in let i = c.requires.1.inside in let fw = t.few in let sm = t.small in let rm = t.room in let n = source-size a.w a.work.now c.requires.0.1 in let q = in_source _ _ _ _ c.requires.0.0 c.requires.1 in let ls = c.requires.0.1 in let x : c.bound_at.result.0 ≡ get_or (drop a.w.base.0 a.numbers.now) (length (cut a.w.base.0 (a.w.base.0 + a.w.size) a.work.now) + a.from) 0 = c.bound_at.ensures ∙ ap (λ (j : ℕ). get_or (drop a.w.base.0 a.numbers.now) (j + a.from) 0) (sym n) in let nr = ls.near in omega (arith, nr, n, x, q.0, q.1.0)
-
-pub overflow_add-from : goal.overflow_add-from
-overflow_add-from c = let a = c.args in let t = table-in a.w a.work.now a.numbers.now c.requires.0 in let i = c.requires.1.inside in let fw = t.few in let sm = t.small in let rm = t.room in search rules
-
-pub bound_at-requires-2 : goal.bound_at-requires-2
-bound_at-requires-2 c = let a = c.args in let t = table-in a.w a.work.now a.numbers.now c.requires.0 in let i = c.requires.1.inside in let fw = t.few in let sm = t.small in let rm = t.room in (t, omega arith)
+in_work-a-requires c = let a = c.args in
+    let p = text-places a.text a.w.now a.from c.requires.0 c.requires.1 c.bound_at.ensures refl in
+    omega (arith, c.requires.0.1.near, p.0, p.1)
 
 pub in_work-e-requires : goal.in_work-e-requires
-in_work-e-requires c = let a = c.args in let t = table-in a.w a.work.now a.numbers.now c.requires.0 in let i = c.requires.1.inside in let fw = t.few in let sm = t.small in let rm = t.room in let n = source-size a.w a.work.now c.requires.0.1 in let q = in_source _ _ _ _ c.requires.0.0 c.requires.1 in let ls = c.requires.0.1 in let x : c.bound_at.result.0 ≡ get_or (drop a.w.base.0 a.numbers.now) (length (cut a.w.base.0 (a.w.base.0 + a.w.size) a.work.now) + a.from) 0 = c.bound_at.ensures ∙ ap (λ (j : ℕ). get_or (drop a.w.base.0 a.numbers.now) (j + a.from) 0) (sym n) in let y : c.bound_at-2.result.0 ≡ get_or (drop a.w.base.0 a.numbers.now) (length (cut a.w.base.0 (a.w.base.0 + a.w.size) a.work.now) + (a.from + 1)) 0 = c.bound_at-2.ensures ∙ ap (λ (j : ℕ). get_or (drop a.w.base.0 a.numbers.now) (j + (a.from + 1)) 0) (sym n) in let nr = ls.near in omega (arith, nr, n, y, q.1.0)
+in_work-e-requires c = let a = c.args in
+    let p = text-places a.text a.w.now a.from c.requires.0 c.requires.1 c.bound_at.ensures c.bound_at-2.ensures in
+    omega (arith, c.requires.0.1.near, p.1)
 
-pub copy_back-to-requires : goal.copy_back-to-requires
-copy_back-to-requires c = let a = c.args in let t = table-in a.w a.work.now a.numbers.now c.requires.0 in let i = c.requires.1.inside in let fw = t.few in let sm = t.small in let rm = t.room in let n = source-size a.w a.work.now c.requires.0.1 in let q = in_source _ _ _ _ c.requires.0.0 c.requires.1 in let ls = c.requires.0.1 in let x : c.bound_at.result.0 ≡ get_or (drop a.w.base.0 a.numbers.now) (length (cut a.w.base.0 (a.w.base.0 + a.w.size) a.work.now) + a.from) 0 = c.bound_at.ensures ∙ ap (λ (j : ℕ). get_or (drop a.w.base.0 a.numbers.now) (j + a.from) 0) (sym n) in let y : c.bound_at-2.result.0 ≡ get_or (drop a.w.base.0 a.numbers.now) (length (cut a.w.base.0 (a.w.base.0 + a.w.size) a.work.now) + (a.from + 1)) 0 = c.bound_at-2.ensures ∙ ap (λ (j : ℕ). get_or (drop a.w.base.0 a.numbers.now) (j + (a.from + 1)) 0) (sym n) in let u = c.in_work-a.ensures in let v = c.in_work-e.ensures in let bh = ls.behind in let ins = ls.inside in ((omega (arith, u, v, x, y, q.0), omega (arith, u, bh)), (omega (arith, v, y, q.1.0, n, ins), omega (arith, v, y, q.1.0, n, rm)))
+pub copy_back-requires : goal.copy_back-requires
+copy_back-requires c = let a = c.args in
+    let p = text-places a.text a.w.now a.from c.requires.0 c.requires.1 c.bound_at.ensures c.bound_at-2.ensures in
+    let ls = c.requires.0.1 in
+    let rm = (table-in a.text a.w.now c.requires.0).room in
+    let u = c.in_work-a.ensures in
+    let v = c.in_work-e.ensures in
+    ((omega (arith, u, v, p.0), omega (arith, u, ls.behind)), (omega (arith, v, p.1, ls.inside), omega (arith, v, p.1, rm)))
 
 pub returns : goal.returns
-returns c = let a = c.args in text_in a.w a.from _ _ _ _ a.count c.requires.0 c.requires.1 c.bound_at.ensures c.bound_at-2.ensures c.in_work-a.ensures c.in_work-e.ensures c.copy_back-to.ensures
+returns c = let a = c.args in text_in a.text a.from _ _ _ _ a.count c.requires.0 c.requires.1 c.bound_at.ensures c.bound_at-2.ensures c.in_work-a.ensures c.in_work-e.ensures c.copy_back.ensures
