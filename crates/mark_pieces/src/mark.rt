@@ -99,7 +99,7 @@ pub fn finish_mark(
     let braces = takes_braces(w.source(), first, w.at, d, before, next);
     escape_brace(w, first);
     close_mark(w, body.start, d, braces);
-    if w.fits() {
+    if w.at.0 <= w.end {
         put_span(
             spans,
             body.span,

@@ -1,6 +1,5 @@
 use native.Mathlib.Omega.{arith}
-use mathlib.Core.Path.{sym, ap, ◌∙◌}
-use borrow.Author.Tests.{leb-false}
+use mathlib.Core.Path.{ap, ◌∙◌}
 use Prim.Native.Nat.{ℕ, ◌+◌}
 use mathlib.Core.List.{◌∷◌, ◌++◌}
 use lib.ListN.{take, drop}
@@ -10,8 +9,8 @@ use Rattle.mark_pieces.proofs.Listing.{bit-cond}
 use Rattle.mark_pieces.proofs.Wrapping.{closes-step, closes-keeps}
 use Rattle.mark_pieces.proofs.mark.finish_mark.Goals as goal
 
-pub returns-then-fits : goal.returns-then-fits
-returns-then-fits c = let a = c.args in
+pub returns-then-w : goal.returns-then-w
+returns-then-w c = let a = c.args in
     let form = c.takes_braces-braces in
     let escaped = c.escape_brace.ensures in
     let closed = c.close_mark.ensures in
@@ -30,8 +29,8 @@ returns-then-fits c = let a = c.args in
       kept = kept-then escaped.kept closed.kept;
     }
 
-pub returns-else-fits : goal.returns-else-fits
-returns-else-fits c = let a = c.args in
+pub returns-else-w : goal.returns-else-w
+returns-else-w c = let a = c.args in
     let form = c.takes_braces-braces in
     let escaped = c.escape_brace.ensures in
     let closed = c.close_mark.ensures in
@@ -41,14 +40,13 @@ returns-else-fits c = let a = c.args in
     let p = c.requires.0.0 in
     let e₁ = escaped.kept.same.end in
     let e₂ = closed.kept.same.end in
-    let z = leb-false _ _ (sym c.fits.ensures ∙ c.if-fits.false) in
     record {
       finished = record {
         form = form-in a.w.now c.source.ensures a.d a.before a.next (a.body.start.0 + 1) a.w.now.at.0 p.0 (omega (arith, p.1, s)) form.ensures;
         step = closes-step form.result a.d escaped.text closed.text;
         keeps = closes-keeps form.result a.d escaped.text closed.text;
         grows = omega (arith, g₁, g₂);
-        spans = λ h r. absurd (omega (arith, h, z, s, e₁, e₂));
+        spans = λ h r. absurd (omega (arith, h, c.if-w.false, s, e₁, e₂));
       };
       kept = kept-then escaped.kept closed.kept;
     }
