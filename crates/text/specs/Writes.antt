@@ -5,6 +5,7 @@
 --   Apart a e at end          the part from a up to e stands outside of the area from `at` up to `end`: before it or behind it
 --   cut a e s                 the elements of s from a up to e
 --   Pasted xs at xs' t        t stands in xs' from `at` on, behind what xs has there; up to 15 elements behind t may be others than in xs
+--   BlocksFit .., BlocksPasted ..   the cells from a up to e can be, and have been, copied in blocks to place `at` on of the pair that they stand in
 --   cleared from xs           xs with a 0 for each element from place `from` on
 --   padded m xs               a slice of m elements that holds xs and then zeros
 --   LaidOut x m k out plain   the text x stands in out and its origins in plain, slices of m and k elements, with zeros behind
@@ -38,6 +39,13 @@ cut a e s = take (e - a) (drop a s)
 pub record Pasted {A : Type 0} (xs : List A) (at : ℕ) (xs' t : List A) : Type 0 where
   pub text : take (at + length t) xs' ≡ take at xs ++ t
   pub behind : drop (at + length t + 15) xs' ≡ drop (at + length t + 15) xs
+
+abbrev pub BlocksFit : (bs ns : List ℕ) (a e at : ℕ) → Type 0
+BlocksFit bs ns a e at =
+    ((a ≤ e) × ((e + 15 ≤ length bs) × (e + 15 ≤ length ns))) × (((at + (e - a) + 15 ≤ length bs) × (at + (e - a) + 15 ≤ length ns)) × Apart a (e + 15) at (at + (e - a) + 15))
+
+abbrev pub BlocksPasted : (bs ns : List ℕ) (a e at : ℕ) (bs' ns' : List ℕ) → Type 0
+BlocksPasted bs ns a e at bs' ns' = Pasted bs at bs' (take (e - a) (drop a bs)) × Pasted ns at ns' (take (e - a) (drop a ns))
 
 unfoldable pub cleared : (from : ℕ) → List ℕ → List ℕ
 cleared from xs = take from xs ++ replicate (length xs - from) 0

@@ -3,7 +3,7 @@
 ghost use Rattle.std.specs.Prelude.{◌≡◌, [], ◌∷◌, ◌+◌, ◌-◌, ◌≤◌, ◌<◌, length};
 ghost use Rattle.std.specs.List.{copy_within};
 ghost use Rattle.text.specs.Cells.{cell, cells, part, written, sign};
-ghost use Rattle.text.specs.Writes.{AppendsIn, Apart, cut};
+ghost use Rattle.text.specs.Writes.{AppendsIn, Apart, BlocksFit, BlocksPasted, cut};
 
 use crate::blank::place_at;
 use crate::block::within;
@@ -81,6 +81,28 @@ fn copy_short(buf: &mut [u8], nums: &mut [u32], a: usize, e: usize, at: usize)
     nums.copy_within(a..e, at);
 }
 
+// Copies the cells from a up to e to a place on, in blocks, by a call: where what is around it stands in its callers.
+#[inline(never)]
+fn within_called(buf: &mut [u8], nums: &mut [u32], a: usize, e: usize, at: usize)
+    requires { BlocksFit buf.old nums.old a e at }
+    ensures { BlocksPasted buf.old nums.old a e at buf.new nums.new }
+{
+    within(buf, nums, a, e, at);
+}
+
+// The same, by a call or not.
+#[inline(always)]
+fn copy_blocks(buf: &mut [u8], nums: &mut [u32], a: usize, e: usize, at: usize, called: bool)
+    requires { BlocksFit buf.old nums.old a e at }
+    ensures { BlocksPasted buf.old nums.old a e at buf.new nums.new }
+{
+    if called {
+        within_called(buf, nums, a, e, at);
+    } else {
+        within(buf, nums, a, e, at);
+    }
+}
+
 // Appends the cells from a up to e of the same pair of slices: in blocks, where 15 cells more can be read behind them (`spare` can) and written.
 #[inline(always)]
 fn append_run(
@@ -91,6 +113,7 @@ fn append_run(
     spare: usize,
     end: usize,
     at: WorkAt,
+    called: bool,
 ) -> WorkAt
     requires inside { ((a ≤ e) × ((e ≤ length buf.old) × (e ≤ length nums.old))) × ((end ≤ length buf.old) × (end ≤ length nums.old)) }
     requires spare { at.0 < end → 15 ≤ spare → ((e + 15 ≤ length buf.old) × (e + 15 ≤ length nums.old)) × Apart a (e + 15) at.0 end }
@@ -102,7 +125,7 @@ fn append_run(
         return WorkAt(FULL);
     }
     if 15 <= spare.min(room - n) {
-        within(buf, nums, a, e, at.0);
+        copy_blocks(buf, nums, a, e, at.0, called);
     } else if 0 < n {
         copy_short(buf, nums, a, e, at.0);
     }
@@ -121,7 +144,7 @@ pub fn copy_within(
     requires { ((a.0 ≤ e.0) × (e.0 ≤ at.0)) × ((e.0 ≤ end) × ((end ≤ length buf.old) × (end ≤ length nums.old))) }
     ensures { AppendsIn buf.old nums.old end at.0 buf.new nums.new result.0 (part a.0 e.0 (cells buf.old nums.old)) }
 {
-    append_run(buf, nums, a.0, e.0, at.0 - e.0, end, at)
+    append_run(buf, nums, a.0, e.0, at.0 - e.0, end, at, false)
 }
 
 // Appends the cells from a up to e of the same pair of slices, which stand behind the area.
@@ -136,13 +159,23 @@ pub fn copy_back(
     requires { ((a.0 ≤ e.0) × (end ≤ a.0)) × ((e.0 ≤ length buf.old) × (e.0 ≤ length nums.old)) }
     ensures { AppendsIn buf.old nums.old end at.0 buf.new nums.new result.0 (part a.0 e.0 (cells buf.old nums.old)) }
 {
-    append_run(
-        buf,
-        nums,
-        a.0,
-        e.0,
-        buf.len().min(nums.len()) - e.0,
-        end,
-        at,
-    )
+    let spare = buf.len().min(nums.len()) - e.0;
+    append_run(buf, nums, a.0, e.0, spare, end, at, false)
+}
+
+// The same as a part of its caller, with a call for the blocks: text pieces are short and many.
+#[inline(always)]
+pub fn copy_piece(
+    buf: &mut [u8],
+    nums: &mut [u32],
+    a: WorkAt,
+    e: WorkAt,
+    end: usize,
+    at: WorkAt,
+) -> WorkAt
+    requires { ((a.0 ≤ e.0) × (end ≤ a.0)) × ((e.0 ≤ length buf.old) × (e.0 ≤ length nums.old)) }
+    ensures { AppendsIn buf.old nums.old end at.0 buf.new nums.new result.0 (part a.0 e.0 (cells buf.old nums.old)) }
+{
+    let spare = buf.len().min(nums.len()) - e.0;
+    append_run(buf, nums, a.0, e.0, spare, end, at, true)
 }

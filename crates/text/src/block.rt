@@ -15,14 +15,31 @@ fn write_16<T: Copy>(s: &mut [T], at: usize, block: [T; 16])
     }
 }
 
+// The 16 elements from a place on, read one by one: the library's `first_chunk` tests how long the rest is, at each block.
+fn read_16<T: Copy>(s: &[T], from: usize) -> [T; 16]
+    requires { from + 16 ≤ length s.now }
+    ensures { result ≡ take 16 (drop from s.now) }
+{
+    let mut block = [s[from]; 16];
+    for k in 0..16 {
+        block[k] = s[from + k];
+    }
+    block
+}
+
 // Copies the elements from a up to e to a place on, where they stand before it or behind all that is written.
 fn within_one<T: Copy>(s: &mut [T], a: usize, e: usize, at: usize)
     requires { ((a ≤ e) × (e + 15 ≤ length s.old)) × ((at + (e - a) + 15 ≤ length s.old) × Apart a (e + 15) at (at + (e - a) + 15)) }
     ensures { Pasted s.old at s.new (take (e - a) (drop a s.old)) }
 {
-    for k in 0..(e - a).div_ceil(16) {
-        let block: [T; 16] = *s[a + 16 * k..].first_chunk().unwrap();
-        write_16(s, at + 16 * k, block);
+    let mut from = a;
+    let mut to = at;
+    // A while: both places move on by a block.
+    while from < e {
+        let block = read_16(s, from);
+        write_16(s, to, block);
+        from += 16;
+        to += 16;
     }
 }
 

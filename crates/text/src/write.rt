@@ -1,10 +1,20 @@
 // Laying out cells as a text and its origins, in a lent pair of slices.
-ghost use Rattle.std.specs.Prelude.{◌≡◌, [], map, ◌+◌, ◌≤◌, length, take};
-ghost use Rattle.text.specs.Cells.{cells, origin_of, part};
-ghost use Rattle.text.specs.Writes.{padded, LaidOut};
+ghost use Rattle.std.specs.Prelude.{◌≡◌, [], ◌∷◌, map, ◌+◌, ◌≤◌, length, take};
+ghost use Rattle.text.specs.Cells.{cell, cells, origin_of, part};
+ghost use Rattle.text.specs.Writes.{Appends, padded, LaidOut};
 
-use crate::WorkAt;
+use crate::area::put_in;
 use crate::cell::origin_of;
+use crate::{TextAt, WorkAt};
+
+// Appends one cell to the whole of two slices, of whatever lengths.
+pub fn put(buf: &mut [u8], nums: &mut [u32], at: TextAt, b: u8, x: u32) -> TextAt
+    ensures { Appends (cells buf.old nums.old) at.0 (cells buf.new nums.new) result.0 (cell b x ∷ []) }
+{
+    let end = buf.len().min(nums.len());
+    let to = put_in(buf, nums, end, WorkAt(at.0), b, x);
+    TextAt(to.0)
+}
 
 // Lays out the first n bytes of a source, with zeros behind them.
 fn lay_bytes(src: &[u8], n: usize, out: &mut [u8])

@@ -7,7 +7,7 @@ ghost use Rattle.text.specs.Lines.{trim_start, trim_end, all_blank, lines};
 ghost use Rattle.text.specs.Writes.{Apart, cut};
 
 use crate::WorkAt;
-use crate::area::{copy_back, copy_within, put_in, put_text_in, put_within};
+use crate::area::{copy_piece, copy_within, put_in, put_text_in, put_within};
 use crate::cell::{RULE_BLANK, RULE_SIGN};
 use crate::trim::{all_blank, line_end, trim_end, trim_start};
 
@@ -76,11 +76,12 @@ impl Writer<'_> {
     }
 
     // Appends the cells from a up to e of the same pair of slices, which stand behind the area.
+    #[inline(always)]
     pub fn copy_back(&mut self, a: WorkAt, e: WorkAt)
         requires { ((a.0 ≤ e.0) × (self.old.end ≤ a.0)) × ((e.0 ≤ length self.old.bytes.now) × (e.0 ≤ length self.old.numbers.now)) }
         ensures { Wrote self.old self.new (part a.0 e.0 (cells self.old.bytes.now self.old.numbers.now)) }
     {
-        self.at = copy_back(self.bytes, self.numbers, a, e, self.end, self.at);
+        self.at = copy_piece(self.bytes, self.numbers, a, e, self.end, self.at);
     }
 
     // Appends a number in decimal.

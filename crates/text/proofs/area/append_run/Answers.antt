@@ -14,7 +14,7 @@ returns c =
       | then-min-ge15 w ↦
           rw (w.buf-is, w.nums-is)
           (appends_in-pasted a.buf.now a.nums.now a.a a.e (omega arith) (omega arith) (omega arith) (omega arith) (omega arith) (omega arith) (search rules) (search rules) (omega arith)
-          w.within.ensures.0 w.within.ensures.1)
+          w.copy_blocks.ensures.0 w.copy_blocks.ensures.1)
       | else-min-ge15+then-n-gt0 w ↦
           rw (w.buf-is, w.nums-is)
           (appends_in-copied a.buf.now a.nums.now a.a a.e (omega arith) (omega arith) (omega arith) (omega arith) (omega arith) (omega arith) w.copy_short.auto.buf w.copy_short.auto.nums
