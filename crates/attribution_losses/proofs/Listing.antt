@@ -38,7 +38,7 @@ pub puts-past : {T : Type 0} (v t : List T) (at end : ℕ) → end ≡ at + leng
 puts-past v t at end e lt = record { size = refl; end = e; keeps = refl; text = λ h. absurd (omega arith) }
 
 -- n elements of s have been copied over those from `at` on
-pub puts-pasted : (v s : List ℕ) (at n : ℕ) → at + n ≤ length v → n ≤ length s → (v' : List ℕ) → length v' ≡ length v → v' ≡ paste v at s n → Puts v at v' (at + n) (take n s)
+pub puts-pasted : {T : Type 0} (v s : List T) (at n : ℕ) → at + n ≤ length v → n ≤ length s → (v' : List T) → length v' ≡ length v → v' ≡ paste v at s n → Puts v at v' (at + n) (take n s)
 puts-pasted v s at n le m v' z e =
     let t : take (at + n) v' ≡ take at v ++ take n s = rw e (take-paste v at s n (omega arith) m) in
     let w : length (take n s) ≡ n = length-take-le n s m in

@@ -5,14 +5,16 @@ ghost use Rattle.attribution_losses.specs.Lists.{Puts};
 
 use attribution_reading::scan::Extent;
 
-// Puts values where they fit.
+// Puts values where they fit, one by one: a slice's copy is a call, and asks the C library for one more name.
 pub fn put<T: Copy>(values: &[T], buf: &mut [T], at: usize) -> usize
     requires { at + length values.now < 1099511627776 }
     ensures { Puts buf.old at buf.new result values.now }
 {
     let end = at + values.len();
     if end <= buf.len() {
-        buf[at..end].copy_from_slice(values);
+        for k in 0..values.len() {
+            buf[at + k] = values[k];
+        }
     }
     end
 }
