@@ -15,8 +15,9 @@ use Rattle.std.proofs.lemmas.List.Recursion.{same_from_clauses}
 use Rattle.text.specs.Ascii.{ascii}
 use Rattle.text.specs.Decimal.{decimal}
 use Rattle.text.specs.declared.writer.Writer.{Writer}
+use Rattle.text.proofs.Areas.{area-whole}
 use Rattle.text.proofs.Writers.{wrote-then}
-use Rattle.listing.specs.Listing.{escaped_byte, escaped, copied, line, loss, loss_lines, field, Lists}
+use Rattle.listing.specs.Listing.{escaped_byte, escaped, copied, line, loss, loss_lines, field, Adds, Lists}
 use Rattle.losses.specs.declared.Loss.{Loss}
 use Rattle.losses.specs.Records.{no_loss}
 
@@ -104,3 +105,10 @@ copied-counts (o ∷ os) = rw (copied-counts os) (by (eqb o 0) (filter (λ x. no
     by : (t : Bool) (l : List ℕ) → cond t 0 1 + length l ≡ length (cond (not t) (o ∷ l) l)
     by true l = omega arith
     by false l = omega arith
+
+-- ---- a pair of slices
+
+-- a writer over the whole of a pair of slices
+pub whole-listed : {bs ns : List ℕ} {w w' : Writer} (s : List ℕ) → Lists w w' s → w.end ≡ min (length w.bytes.now) (length w.numbers.now) → bs ≡ w'.bytes.now → ns ≡ w'.numbers.now
+    → Adds w.bytes.now w.numbers.now w.at.0 bs ns w'.at.0 s
+whole-listed {w} s p e b n = rw (b, n) (area-whole w.bytes.now w.numbers.now w.end (omega arith) (omega arith) e p.same.bytes-size p.same.numbers-size p.text)

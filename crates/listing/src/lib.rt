@@ -5,10 +5,11 @@ ghost use Rattle.std.specs.Prelude.{◌≡◌, [], ◌∷◌, ◌≤◌, length}
 ghost use Rattle.text.specs.Bounds.{out_most, number_most};
 ghost use Rattle.text.specs.Ascii.{ascii};
 ghost use Rattle.text.specs.Decimal.{decimal};
-ghost use Rattle.listing.specs.Listing.{escaped_byte, escaped, copied, line, field, loss, loss_lines, sizes, counts, listing, Lists};
+ghost use Rattle.listing.specs.Listing.{escaped_byte, escaped, copied, line, field, loss, loss_lines, sizes, counts, listing, Adds, Lists};
 
 use losses::Loss;
 use text::writer::Writer;
+use text::{TextAt, WorkAt};
 
 // Appends bytes as they are.
 fn put_plain(to: &mut Writer, src: &[u8])
@@ -31,12 +32,27 @@ fn put_byte(to: &mut Writer, b: u8)
 }
 
 // Appends a text, escaped.
-pub fn put_escaped(to: &mut Writer, src: &[u8])
+pub fn write_escaped(to: &mut Writer, src: &[u8])
     ensures { Lists to.old to.new (escaped src.now) }
 {
     for b in src {
         put_byte(to, *b);
     }
+}
+
+// The same in a pair of slices, from a place on: the place behind it, past every end where it does not fit.
+pub fn put_escaped(src: &[u8], buf: &mut [u8], nums: &mut [u32], at: TextAt) -> TextAt
+    ensures { Adds buf.old nums.old at.0 buf.new nums.new result.0 (escaped src.now) }
+{
+    let end = buf.len().min(nums.len());
+    let mut to = Writer {
+        bytes: buf,
+        numbers: nums,
+        at: WorkAt(at.0),
+        end,
+    };
+    write_escaped(&mut to, src);
+    TextAt(to.at.0)
 }
 
 // Appends a line with a number.
@@ -53,7 +69,7 @@ fn put_line(to: &mut Writer, key: &[u8], value: &[u8])
     ensures { Lists to.old to.new (line key.now (escaped value.now)) }
 {
     put_plain(to, key);
-    put_escaped(to, value);
+    write_escaped(to, value);
     to.put_sign(b'\n');
 }
 
@@ -89,7 +105,7 @@ fn put_sizes(to: &mut Writer, size: u32, copied: u32)
 }
 
 // Appends the listing of a converted post: its text with its origins, its losses and their bytes.
-pub fn put_listing(to: &mut Writer, text: &[u8], origins: &[u32], records: &[Loss], words: &[u8])
+pub fn write_listing(to: &mut Writer, text: &[u8], origins: &[u32], records: &[Loss], words: &[u8])
     requires same_length { length text.now ≡ length origins.now }
     requires text_fits { length text.now ≤ out_most }
     requires losses_fit { length records.now ≤ number_most }
@@ -100,6 +116,32 @@ pub fn put_listing(to: &mut Writer, text: &[u8], origins: &[u32], records: &[Los
     put_number(to, b"losses=", records.len() as u32);
     put_losses(to, records, words);
     put_line(to, b"text=", text);
+}
+
+// The same in a pair of slices, from a place on: the place behind it, past every end where it does not fit.
+pub fn put_listing(
+    text: &[u8],
+    origins: &[u32],
+    records: &[Loss],
+    words: &[u8],
+    buf: &mut [u8],
+    nums: &mut [u32],
+    at: TextAt,
+) -> TextAt
+    requires same_length { length text.now ≡ length origins.now }
+    requires text_fits { length text.now ≤ out_most }
+    requires losses_fit { length records.now ≤ number_most }
+    ensures { Adds buf.old nums.old at.0 buf.new nums.new result.0 (listing text.now origins.now records.now words.now) }
+{
+    let end = buf.len().min(nums.len());
+    let mut to = Writer {
+        bytes: buf,
+        numbers: nums,
+        at: WorkAt(at.0),
+        end,
+    };
+    write_listing(&mut to, text, origins, records, words);
+    TextAt(to.at.0)
 }
 
 // How many bytes of a text are copied: those with an origin.

@@ -13,9 +13,8 @@ use Rattle.lending.specs.declared.answer.Converted.{Converted}
 use Rattle.lending.specs.declared.lent.Refusal.{Refusal}
 use Rattle.lending.specs.declared.lent.Refusal.TheVariants.{TextTooLong}
 use Rattle.losses.specs.declared.Loss.{Loss}
-use Rattle.text.proofs.Areas.{area-whole}
 use Rattle.post.specs.Calls.{Called}
-use Rattle.listing.specs.Listing.{listing, Lists, Adds}
+use Rattle.listing.specs.Listing.{listing, Lists}
 use Rattle.post_listing.specs.Prints.{answer_listing, post_listing}
 
 pub done-listed : (done : Converted) (a r u : ℕ) (out plain : List ℕ) (records : List Loss) (words : List ℕ) {w w' : Writer}
@@ -33,8 +32,3 @@ pub answer-listed : (post : List ℕ) (m k b w n : ℕ) (answer : Result Convert
 unfolding post_listing
 answer-listed post m k b w n (Err r) out plain records words e c l = rw (e, sym c.answer) l
 answer-listed post m k b w n (Ok done) out plain records words e c l = rw (e, sym c.answer, sym c.filled.laid.text, sym c.filled.laid.from, sym c.listed, sym c.filled.spelled) l
-
--- a writer over the whole of a pair of slices
-pub whole-listed : {bs ns : List ℕ} {w w' : Writer} (s : List ℕ) → Lists w w' s → w.end ≡ min (length w.bytes.now) (length w.numbers.now) → bs ≡ w'.bytes.now → ns ≡ w'.numbers.now
-    → Adds w.bytes.now w.numbers.now w.at.0 bs ns w'.at.0 s
-whole-listed {w} s p e b n = rw (b, n) (area-whole w.bytes.now w.numbers.now w.end (omega arith) (omega arith) e p.same.bytes-size p.same.numbers-size p.text)

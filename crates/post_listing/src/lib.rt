@@ -8,7 +8,7 @@ ghost use Rattle.post_listing.specs.Prints.{answer_listing, post_listing, thread
 
 use lending::answer::Converted;
 use lending::lent::Refusal;
-use listing::{put_listing, put_number};
+use listing::{put_number, write_listing};
 use losses::Loss;
 use post::bbcode_to_carve;
 use text::writer::Writer;
@@ -50,7 +50,7 @@ fn put_answer(
             let size = done.size.min(out.len());
             let losses = done.losses.min(records.len());
             let bytes = done.bytes.min(loss_bytes.len());
-            put_listing(
+            write_listing(
                 to,
                 &out[..size],
                 &origins[..size],

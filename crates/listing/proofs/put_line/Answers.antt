@@ -5,4 +5,4 @@ use Rattle.listing.proofs.put_line.Goals as goal
 
 pub returns : goal.returns
 unfolding line
-returns c = simp map-append (wrote-then (wrote-then c.put_plain.ensures c.put_escaped.ensures) c.put_sign.ensures)
+returns c = simp map-append (wrote-then (wrote-then c.put_plain.ensures c.write_escaped.ensures) c.put_sign.ensures)

@@ -1,5 +1,5 @@
 use borrow.Author.Rules.{rules}
-use Rattle.post_listing.proofs.Laws.{whole-listed}
+use Rattle.listing.proofs.Laws.{whole-listed}
 use Rattle.post_listing.proofs.list_thread.Goals as goal
 
 pub returns : goal.returns
