@@ -1,3 +1,4 @@
 pub mod Calling
+pub mod Leaving
 pub mod MarksLength
 pub mod Unchanged

@@ -16,13 +16,16 @@
 --   Finishes ..              this of a marks text, with the losses noted
 --   Numbered ..              this of a call, likewise
 --   spaced x m               the length of the text that quotes and lists lay out of a marks text within quotes' limits: quotes 6, lists 5, 6
---   Lays ..                  what comes back for this length, and what output and origins then hold; ListsEnd, QuotesEnd: of what lists and quotes are given
---   Stays ..                 numbers that stay; behind: where the list pass's areas end
+--   Lays ..                  what comes back for this length, and what output and origins then hold; ListsLay, QuotesLay: of what lists and quotes are given
+--   Stays, Moved             what becomes of numbers; behind: where the list pass's areas end
 --   Listable, Quotable, Marked   what lists, quotes, and both with the losses, ask for
---   ListsLeft, QuotesLeft   what lists and quotes leave
+--   ListsLaid, QuotesLaid    what lists and quotes lay out
 --   LostIn ..                the losses have been listed
+-- In code, where what is lent for the result is cleared at once (listed, quoted, leave):
+--   EndsIn ..                what comes back, and what output, origins and loss bytes then hold; ListsEnd, UnquotedEnd, QuotesEnd: of what lists and quotes are given
+--   Leaves, LaysText, ListsLeft, NotedLeft   what leaving, laying out, lists and quotes leave
 -- Assumes nothing.
-use Rattle.std.specs.Prelude.{◌≡◌, ℕ, ◌+◌, ◌*◌, ◌≤◌, false, cond, List, length, take, ltb, None, Result, Ok, Err, OnOk}
+use Rattle.std.specs.Prelude.{◌≡◌, ℕ, ◌+◌, ◌*◌, ◌≤◌, false, cond, List, [], length, take, drop, ltb, None, Result, Ok, Err, OnOk}
 use Rattle.text.specs.Bounds.{out_most, Room, number_most}
 use Rattle.text.specs.Cells.{Cell, cells, part}
 use Rattle.lending.specs.Lent.{checked}
@@ -36,17 +39,18 @@ use Rattle.losses.specs.declared.Loss.{Loss}
 use Rattle.losses.specs.Records.{records_lent}
 use Rattle.attribution_parts.specs.Attribution.{caption}
 use Rattle.quote_blocks.specs.Quotes as Quotes
+use Rattle.attribution_losses.specs.declared.loss.Counts.{Counts}
 use Rattle.quote_tags.specs.Masks.{visible}
 use Rattle.quote_lines.specs.Lines.{tags}
 use Rattle.quote_losses.specs.declared.loss.Listed.{Listed}
 use Rattle.quote_losses.specs.Losses.{quote_losses, loss_bytes, loss_records, ListsLosses}
-use Rattle.quotes.specs.Calls.{limited, Filled}
+use Rattle.quotes.specs.Calls.{limited, Filled, Laid}
 use Rattle.list_blocks.specs.Blocks.{between}
 use Rattle.list_blocks.specs.Tags as ListTags
 use Rattle.list_blocks.specs.Tags.{pushes}
 use Rattle.list_blocks.specs.Lists.{lists, lists_need}
 use Rattle.lists.specs.Calls as Lists
-use Rattle.text.specs.Writes.{LaidOut}
+use Rattle.text.specs.Writes.{LaidOut, cleared}
 use Rattle.chain.specs.Post.{marks_text, finished, Consumed}
 
 unfoldable pub listing : (x : List Cell) → (m a w : ℕ) → Result Converted Refusal
@@ -112,11 +116,11 @@ pub record Lays (t : List Cell) (m k : ℕ) (wanted r : Result ℕ Refusal) (out
   pub answer : r ≡ wanted
   pub laid : OnOk r (LaidOut t m k out plain)
 
-abbrev pub ListsEnd : (x : List Cell) (out plain : List ℕ) → Result ℕ Refusal → (out' plain' : List ℕ) → Type 0
-ListsEnd x out plain = Lays (lists x) (length out) (length plain) (Lists.converted x (length out))
+abbrev pub ListsLay : (x : List Cell) (out plain : List ℕ) → Result ℕ Refusal → (out' plain' : List ℕ) → Type 0
+ListsLay x out plain = Lays (lists x) (length out) (length plain) (Lists.converted x (length out))
 
-abbrev pub QuotesEnd : (x : List Cell) (out plain : List ℕ) → Result ℕ Refusal → (out' plain' : List ℕ) → Type 0
-QuotesEnd x out plain = Lays (lists (Quotes.quotes caption x)) (length out) (length plain) (spaced x (length out))
+abbrev pub QuotesLay : (x : List Cell) (out plain : List ℕ) → Result ℕ Refusal → (out' plain' : List ℕ) → Type 0
+QuotesLay x out plain = Lays (lists (Quotes.quotes caption x)) (length out) (length plain) (spaced x (length out))
 
 -- ---- in work memory
 
@@ -139,8 +143,8 @@ pub record Listable (a e table : ℕ) (work numbers out plain : List ℕ) : Type
   pub room : table + pushes (ListTags.tokens 0 (part a e (cells work numbers))) ≤ length numbers
   pub small : length numbers ≤ number_most
 
-abbrev pub ListsLeft : (a e table : ℕ) (work numbers out plain : List ℕ) → Result ℕ Refusal → (numbers' out' plain' : List ℕ) → Type 0
-ListsLeft a e table work numbers out plain r numbers' out' plain' = ListsEnd (part a e (cells work numbers)) out plain r out' plain' × Stays (behind e out) table numbers numbers'
+abbrev pub ListsLaid : (a e table : ℕ) (work numbers out plain : List ℕ) → Result ℕ Refusal → (numbers' out' plain' : List ℕ) → Type 0
+ListsLaid a e table work numbers out plain r numbers' out' plain' = ListsLay (part a e (cells work numbers)) out plain r out' plain' × Stays (behind e out) table numbers numbers'
 
 -- quotes of the first k cells, where so many losses have their numbers from r on
 pub record Quotable (k r losses : ℕ) (work numbers out plain : List ℕ) : Type 0 where
@@ -152,9 +156,9 @@ pub record Quotable (k r losses : ℕ) (work numbers out plain : List ℕ) : Typ
   pub shallow : Quotes.too_deep (take k (cells work numbers)) ≡ false
   pub lost : losses ≡ length (quote_losses (take k (cells work numbers)))
 
-abbrev pub QuotesLeft : (k r losses : ℕ) (work numbers out plain : List ℕ) → Result ℕ Refusal → (numbers' out' plain' : List ℕ) → Type 0
-QuotesLeft k r losses work numbers out plain answer numbers' out' plain' =
-    QuotesEnd (take k (cells work numbers)) out plain answer out' plain' × Stays r (r + 5 * losses) numbers numbers'
+abbrev pub QuotesLaid : (k r losses : ℕ) (work numbers out plain : List ℕ) → Result ℕ Refusal → (numbers' out' plain' : List ℕ) → Type 0
+QuotesLaid k r losses work numbers out plain answer numbers' out' plain' =
+    QuotesLay (take k (cells work numbers)) out plain answer out' plain' × Stays r (r + 5 * losses) numbers numbers'
 
 -- the first k cells are the marks text of a post
 pub record Marked (post : List ℕ) (k : ℕ) (work numbers out plain : List ℕ) : Type 0 where
@@ -167,6 +171,42 @@ pub record Marked (post : List ℕ) (k : ℕ) (work numbers out plain : List ℕ
 abbrev pub LostIn : (post s ns ws ns' ws' : List ℕ) → Listed → Type 0
 LostIn post s ns ws ns' ws' r =
     ListsLosses s (tags 1 0 (visible post)) (take (5 * length post) ns) ws (take (5 * length post) ns') ws' r.counts.losses r.counts.bytes × Quotes.TooDeep s r.deep
+
+-- ---- in lent slices: on a refusal output, origins and loss bytes are zero
+
+-- what comes back is r: what it has to be is `wanted`; where it is done, the text t and the loss bytes ws are left, with zeros behind
+abbrev pub EndsIn : (t : List Cell) (ws : List ℕ) (wanted : Result Converted Refusal) (out plain words : List ℕ) → Result Converted Refusal → (out' plain' words' : List ℕ) → Type 0
+EndsIn t ws wanted out plain words r out' plain' words' = (r ≡ wanted) × Filled (if_done r t) (if_done r ws) (length out) (length plain) (length words) out' plain' words'
+
+abbrev pub ListsEnd : (x : List Cell) → Counts → (out plain words : List ℕ) → Result Converted Refusal → (out' plain' words' : List ℕ) → Type 0
+ListsEnd x c out plain words = EndsIn (lists x) (take c.bytes words) (listing x (length out) c.losses c.bytes) out plain words
+
+abbrev pub UnquotedEnd : (x : List Cell) (out plain words : List ℕ) → Result Converted Refusal → (out' plain' words' : List ℕ) → Type 0
+UnquotedEnd x out plain words = EndsIn (lists x) [] (listing x (length out) 0 0) out plain words
+
+abbrev pub QuotesEnd : (x : List Cell) → Counts → (out plain words : List ℕ) → Result Converted Refusal → (out' plain' words' : List ℕ) → Type 0
+QuotesEnd x c out plain words = EndsIn (lists (Quotes.quotes caption x)) (take c.bytes words) (quoting x (length out) c.losses c.bytes) out plain words
+
+-- a text of this length that is laid out stays, with zeros behind the loss bytes
+abbrev pub Leaves : (laid : Result ℕ Refusal) → Counts → (out plain words : List ℕ) → Result Converted Refusal → (out' plain' words' : List ℕ) → Type 0
+Leaves (Ok n) c out plain words r out' plain' words' = (r ≡ Ok (record { size = n; losses = c.losses; bytes = c.bytes })) × ((out' ≡ out) × ((plain' ≡ plain) × (words' ≡ cleared c.bytes words)))
+Leaves (Err e) c out plain words r out' plain' words' = (r ≡ Err e) × Filled [] [] (length out) (length plain) (length words) out' plain' words'
+
+-- the text x of n cells is laid out, with the losses
+abbrev pub LaysText : (x : List Cell) (n : ℕ) → Counts → (out plain words : List ℕ) → Result Converted Refusal → (out' plain' words' : List ℕ) → Type 0
+LaysText x n c out plain words r out' plain' words' = (r ≡ Ok (record { size = n; losses = c.losses; bytes = c.bytes })) × Laid x c.bytes out plain words out' plain' words'
+
+abbrev pub ListsLeft : (a e table : ℕ) → Counts → (work numbers out plain words : List ℕ) → Result Converted Refusal → (numbers' out' plain' words' : List ℕ) → Type 0
+ListsLeft a e table c work numbers out plain words r numbers' out' plain' words' =
+    ListsEnd (part a e (cells work numbers)) c out plain words r out' plain' words' × Stays (behind e out) table numbers numbers'
+
+-- the n numbers from a on stand in front now
+abbrev pub Moved : (a n : ℕ) (ns ns' : List ℕ) → Type 0
+Moved a n ns ns' = take n ns' ≡ take n (drop a ns)
+
+abbrev pub NotedLeft : (k r : ℕ) → Counts → (work numbers out plain words : List ℕ) → Result Converted Refusal → (numbers' out' plain' words' : List ℕ) → Type 0
+NotedLeft k r c work numbers out plain words answer numbers' out' plain' words' =
+    QuotesEnd (take k (cells work numbers)) c out plain words answer out' plain' words' × Moved r (5 * c.losses) numbers numbers'
 
 -- all of this module, for `unfolding` where a closed call is to be computed
 unfoldable pub computes : Unit {0}

@@ -8,9 +8,10 @@ ghost use Rattle.text.specs.Writes.{Holds};
 ghost use Rattle.chain.specs.Post.{marks_text};
 ghost use Rattle.post.specs.Calls.{Called, Copied, LostIn, Marked, Finishes, Numbered};
 
+use laying::{lay_quotes, lay_unquoted};
+use leave::refuse;
 use lending::answer::{Converted, losses_by};
 use lending::lent::{Lent, Refusal, check};
-use listed::write_unquoted;
 use losses::{Loss, fill};
 use marks::pass::marks_pass;
 use marks::untagged::is_untagged;
@@ -18,15 +19,15 @@ use post_steps::front::move_front;
 use post_steps::plain::no_quotes;
 use quote_lines::search::read_lines;
 use quote_losses::loss::{Listed, list_losses};
-use quoted::write_quotes;
 use quotes::refusal_of;
 use text::WorkAt;
 use text::bounds::{numbers_size, work_size};
 use text::source::set_cells;
-use text::write::lay_nothing;
 
-mod listed;
-mod quoted;
+mod laying;
+pub mod leave;
+pub mod listed;
+pub mod quoted;
 
 // Lists the losses of the marks text, the first k work bytes, with lines in the post, and counts how deep the quotes stand. The post is masked in the
 // work bytes from m on; the numbers of the records stand at the front of the numbers, for five of which there is room for each byte of the post.
@@ -76,7 +77,7 @@ fn convert_quoted(
     let losses = lost.counts.losses;
     let bytes = lost.counts.bytes;
     refusal_of(lost.deep, lent < losses, loss_bytes.len() < bytes)?;
-    let size = write_quotes(k, WorkAt(first), losses, work, numbers, out, origins)?;
+    let size = lay_quotes(k, WorkAt(first), losses, work, numbers, out, origins)?;
     move_front(numbers, first, 5 * losses);
     Ok(Converted {
         size,
@@ -101,7 +102,7 @@ fn convert_marked(
 {
     if no_quotes(&work[..k]) {
         let table = WorkAt(work_size(post.len(), out.len()));
-        let size = write_unquoted(k, table, work, numbers, out, origins)?;
+        let size = lay_unquoted(k, table, work, numbers, out, origins)?;
         return Ok(Converted {
             size,
             losses: 0,
@@ -174,11 +175,10 @@ pub fn bbcode_to_carve(
     let answer = convert(post, out, origins, lent, loss_bytes, work, numbers);
     fill(records, numbers, losses_by(answer));
     match answer {
-        Ok(done) => loss_bytes[done.bytes..].fill(0),
-        Err(_) => {
-            lay_nothing(out, origins);
-            loss_bytes.fill(0);
+        Ok(done) => {
+            loss_bytes[done.bytes..].fill(0);
+            answer
         }
+        Err(refusal) => refuse(refusal, out, origins, loss_bytes),
     }
-    answer
 }

@@ -1,40 +1,36 @@
-// The last pass of the chain: lists.
-ghost use Rattle.std.specs.Prelude.{length, take};
+// The last pass of the chain: lists, with what a call leaves.
+ghost use Rattle.std.specs.Prelude.{◌≤◌, length, take};
 ghost use Rattle.text.specs.Cells.{cells};
-ghost use Rattle.post.specs.Calls.{Listable, ListsEnd, ListsLeft};
+ghost use Rattle.post.specs.Calls.{Listable, ListsLeft, UnquotedEnd};
 
+use crate::laying::{lay_lists, lay_unquoted};
+use crate::leave::leave;
+use attribution_losses::loss::Counts;
+use lending::answer::Converted;
 use lending::lent::Refusal;
-use list_steps::close::Areas;
-use list_steps::pass::list_pass;
-use post_steps::plain::no_lists;
 use text::WorkAt;
-use text::write::lay_part;
 
-// Lists of the cells from a up to e, laid out, and how long the text is. The contents stand behind these cells, then the block of a list, and the table of
-// open lists from `table` on; what stands in the numbers before it stays.
+// Lists of the cells from a up to e; the losses are listed. The contents stand behind these cells, then the block of a list, and the table of open
+// lists from `table` on; what stands in the numbers before it stays. On a refusal output, origins and loss bytes are zero.
 pub fn write_lists(
     a: WorkAt,
     e: WorkAt,
     table: WorkAt,
+    losses: Counts,
     work: &mut [u8],
     numbers: &mut [u32],
     out: &mut [u8],
     origins: &mut [u32],
-) -> Result<usize, Refusal>
-    requires { Listable a.0 e.0 table.0 work.old numbers.old out.old origins.old }
-    ensures { ListsLeft a.0 e.0 table.0 work.old numbers.old out.old origins.old result numbers.new out.new origins.new }
+    loss_bytes: &mut [u8],
+) -> Result<Converted, Refusal>
+    requires { Listable a.0 e.0 table.0 work.old numbers.old out.old origins.old × (losses.bytes ≤ length loss_bytes.old) }
+    ensures { ListsLeft a.0 e.0 table.0 losses work.old numbers.old out.old origins.old loss_bytes.old result numbers.new out.new origins.new loss_bytes.new }
 {
-    let areas = Areas {
-        base: e,
-        end: WorkAt(e.0 + out.len()),
-        table,
-    };
-    let passed = list_pass(a, e, areas, work, numbers)?;
-    lay_part(work, numbers, e, passed.end, out, origins);
-    Ok(passed.end.0 - e.0)
+    let laid = lay_lists(a, e, table, work, numbers, out, origins);
+    leave(laid, losses, out, origins, loss_bytes)
 }
 
-// Lists of the first k cells, in which no quote stands. Where lists leaves them as they are, they are laid out where they stand.
+// Lists of the first k cells, in which no quote stands: there are no losses. On a refusal output and origins are zero, and loss bytes in any case.
 pub fn write_unquoted(
     k: usize,
     table: WorkAt,
@@ -42,13 +38,15 @@ pub fn write_unquoted(
     numbers: &mut [u32],
     out: &mut [u8],
     origins: &mut [u32],
-) -> Result<usize, Refusal>
+    loss_bytes: &mut [u8],
+) -> Result<Converted, Refusal>
     requires { Listable 0 k table.0 work.old numbers.old out.old origins.old }
-    ensures { ListsEnd (take k (cells work.old numbers.old)) out.old origins.old result out.new origins.new }
+    ensures { UnquotedEnd (take k (cells work.old numbers.old)) out.old origins.old loss_bytes.old result out.new origins.new loss_bytes.new }
 {
-    if no_lists(&work[..k]) {
-        lay_part(work, numbers, WorkAt(0), WorkAt(k), out, origins);
-        return Ok(k);
-    }
-    write_lists(WorkAt(0), WorkAt(k), table, work, numbers, out, origins)
+    let laid = lay_unquoted(k, table, work, numbers, out, origins);
+    let none = Counts {
+        losses: 0,
+        bytes: 0,
+    };
+    leave(laid, none, out, origins, loss_bytes)
 }

@@ -1,34 +1,31 @@
-// Quotes of the chain, and lists behind them.
-ghost use Rattle.post.specs.Calls.{Quotable, QuotesLeft};
+// Quotes of the chain, and lists behind them, with what a call leaves.
+ghost use Rattle.std.specs.Prelude.{◌≤◌, length};
+ghost use Rattle.post.specs.Calls.{Quotable, NotedLeft};
 
-use crate::listed::write_lists;
+use crate::laying::lay_quotes;
+use crate::leave::leave;
+use attribution_losses::loss::Counts;
+use lending::answer::Converted;
 use lending::lent::Refusal;
-use quote_steps::close::Areas;
-use quote_steps::pass::quote_pass;
+use post_steps::front::move_front;
 use text::WorkAt;
 
-// Quotes of the first k cells, which are within quotes' limits, then lists, laid out, and how long the text is. The numbers of the records of the losses stand
-// from `records` on, and stay.
-pub fn write_quotes(
+// Quotes of the first k cells, which are within quotes' limits, then lists; the losses are listed, and the numbers of their records, which stand from
+// `records` on, are moved to the front. On a refusal output, origins and loss bytes are zero.
+pub fn write_noted(
     k: usize,
     records: WorkAt,
-    losses: usize,
+    losses: Counts,
     work: &mut [u8],
     numbers: &mut [u32],
     out: &mut [u8],
     origins: &mut [u32],
-) -> Result<usize, Refusal>
-    requires { Quotable k records.0 losses work.old numbers.old out.old origins.old }
-    ensures { QuotesLeft k records.0 losses work.old numbers.old out.old origins.old result numbers.new out.new origins.new }
+    loss_bytes: &mut [u8],
+) -> Result<Converted, Refusal>
+    requires { Quotable k records.0 losses.losses work.old numbers.old out.old origins.old × (losses.bytes ≤ length loss_bytes.old) }
+    ensures { NotedLeft k records.0 losses work.old numbers.old out.old origins.old loss_bytes.old result numbers.new out.new origins.new loss_bytes.new }
 {
-    let m = out.len();
-    let areas = Areas {
-        text: WorkAt(k),
-        base: WorkAt(k),
-        end: WorkAt(k + m),
-        top: WorkAt(k + m + m),
-    };
-    let passed = quote_pass(work, &mut numbers[..records.0], areas).ok_or(Refusal::NoSpace)?;
-    let table = WorkAt(records.0 + 5 * losses);
-    write_lists(areas.base, passed.end, table, work, numbers, out, origins)
+    let laid = lay_quotes(k, records, losses.losses, work, numbers, out, origins);
+    move_front(numbers, records.0, 5 * losses.losses);
+    leave(laid, losses, out, origins, loss_bytes)
 }

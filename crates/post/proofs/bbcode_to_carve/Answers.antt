@@ -2,8 +2,8 @@ use mathlib.Core.Path.{sym, ap, ◌∙◌}
 use Prim.Native.Nat.{ℕ, ◌*◌}
 use lib.ListN.{length, take}
 use Rattle.losses.specs.Records.{records_lent}
-use Rattle.text.proofs.Clearing.{fill_cleared, fill_cleared_all}
-use Rattle.post.proofs.Calling.{filled-done, filled-none, with-copied}
+use Rattle.text.proofs.Clearing.{fill_cleared}
+use Rattle.post.proofs.Calling.{filled-done, with-copied}
 use Rattle.post.proofs.bbcode_to_carve.Goals as goal
 
 pub returns-in-Ok : goal.returns-in-Ok
@@ -21,8 +21,9 @@ pub returns-in-Err : goal.returns-in-Err
 returns-in-Err c = let a = c.convert-answer in
     let e = c.in-Err.is in
     let k = rw e at c.losses_by.ensures in
-    rw e (with-copied (record {
+    let r = c.refuse.ensures in
+    rw r.0 (with-copied (record {
       answer = sym e ∙ a.ensures.0.answer;
-      filled = filled-none a.new.loss_bytes (rw (a.auto.out, a.auto.origins) at c.lay_nothing.ensures) a.auto.loss_bytes (fill_cleared_all _ _ c.fill-in-Err.ensures.after);
+      filled = rw (a.auto.out, a.auto.origins, a.auto.loss_bytes) at r.1;
       listed = c.fill.ensures ∙ ap (λ (n : ℕ). records_lent (length c.args.records.now) (take (5 * n) a.new.numbers)) k;
     }))

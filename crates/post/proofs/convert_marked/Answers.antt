@@ -24,8 +24,8 @@ slice_bounds-no_quotes-end-2 c = let x = c.args in
 pub work_size-requires : goal.work_size-requires
 work_size-requires c = let M = c.requires in M.room.0
 
-pub write_unquoted-requires : goal.write_unquoted-requires
-write_unquoted-requires c = let x = c.args in
+pub lay_unquoted-requires : goal.lay_unquoted-requires
+lay_unquoted-requires c = let x = c.args in
     let M = c.requires in
     let s = c.work_size.ensures in
     let hb : x.k ≤ length x.work.now = omega (arith, M.near, M.room) in
@@ -48,7 +48,7 @@ returns-in_err-size c = let x = c.args in
     let l = area-length x.work.now x.numbers.now x.k hb hn in
     let t = marked-none (take x.k (cells x.work.now x.numbers.now)) (take x.k x.work.now) (length x.out.now) (cells-bytes x.k x.work.now x.numbers.now hb hn) (omega (arith, l, M.near.0)) (c.no_quotes.ensures c.if-no_quotes.true) x.lent (length x.loss_bytes.now) in
     let r = err_from_is_err_and c.from_residual.result c.from_residual.ensures.1 in
-    rw (r.1, r.2) (record { answer = with-refused 0 0 c.write_unquoted.ensures.answer c.in_err-size.was ∙ t; left = tt }, refused-noted _ _ _ _)
+    rw (r.1, r.2) (record { answer = with-refused 0 0 c.lay_unquoted.ensures.answer c.in_err-size.was ∙ t; left = tt }, refused-noted _ _ _ _)
 
 pub returns-then-no_quotes : goal.returns-then-no_quotes
 returns-then-no_quotes c = let x = c.args in
@@ -63,8 +63,8 @@ returns-then-no_quotes c = let x = c.args in
     let near : length y ≤ m = omega (arith, l, M.near.0) in
     let u = c.no_quotes.ensures c.if-no_quotes.true in (
       record {
-        answer = with-done 0 0 c.write_unquoted.ensures.answer c.in_ok-size.was ∙ marked-none y s m e near u x.lent (length x.loss_bytes.now);
-        left = unquoted-left y s m e near u c.in_ok-size.size _ (rw c.in_ok-size.was at c.write_unquoted.ensures.laid);
+        answer = with-done 0 0 c.lay_unquoted.ensures.answer c.in_ok-size.was ∙ marked-none y s m e near u x.lent (length x.loss_bytes.now);
+        left = unquoted-left y s m e near u c.in_ok-size.size _ (rw c.in_ok-size.was at c.lay_unquoted.ensures.laid);
       },
       unquoted-noted y s m e near u x.post.now x.lent _,
     )

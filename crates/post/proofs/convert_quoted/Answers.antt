@@ -48,8 +48,8 @@ returns-in_err-refusal_of c = let a = c.args in
       refused-noted _ _ _ _,
     )
 
-pub write_quotes-requires : goal.write_quotes-requires
-write_quotes-requires c = let a = c.args in
+pub lay_quotes-requires : goal.lay_quotes-requires
+lay_quotes-requires c = let a = c.args in
     let M = c.requires in
     let p = c.list_lost-lost in
     let s = c.work_size-first.ensures in
@@ -82,7 +82,7 @@ returns-in_err-size c = let a = c.args in
     let n = listed-counts a.post.now _ _ _ _ _ _ _ p.ensures.0.0 x e in
     let f = sym c.refusal_of.ensures ∙ c.in_ok-refusal_of.was in
     let kept = cells-kept a.k (length a.out.now) c.work_size-first.result a.work.now a.numbers.now p.new.work p.new.numbers M.near.0 (omega (arith, s, M.near)) (omega (arith, s, M.room.1.1)) p.ensures.1 in
-    let g = rw kept at c.write_quotes.ensures.0 in
+    let g = rw kept at c.lay_quotes.ensures.0 in
     let r = err_from_is_err_and c.from_residual-in_err-size.result c.from_residual-in_err-size.ensures.1 in
     rw (r.1, r.2) (
       record { answer = with-refused _ _ g.answer c.in_err-size.was ∙ marked-fine x _ _ _ _ _ _ _ p.auto.loss_bytes (sym (p.ensures.0.1 x e)) n.0 n.1 f; left = tt },
@@ -102,7 +102,7 @@ move_front-requires c = let a = c.args in
     let p = c.list_lost-lost in
     let hb : a.k ≤ length a.work.now = omega (arith, M.near, M.room) in
     let few = few-losses a.k a.work.now hb p.ensures.0.0.few in
-    omega (arith, few, c.work_size-first.ensures, M.near, M.room, p.auto.numbers, c.write_quotes.auto.numbers)
+    omega (arith, few, c.work_size-first.ensures, M.near, M.room, p.auto.numbers, c.lay_quotes.auto.numbers)
 
 pub returns : goal.returns
 returns c = let a = c.args in
@@ -123,7 +123,7 @@ returns c = let a = c.args in
     let first = c.work_size-first.result in
     let hf : first ≤ length a.numbers.now = omega (arith, s, M.room.1.1) in
     let kept = cells-kept a.k (length a.out.now) first a.work.now a.numbers.now p.new.work p.new.numbers M.near.0 (omega (arith, s, M.near)) hf p.ensures.1 in
-    let g = rw kept at c.write_quotes.ensures in
+    let g = rw kept at c.lay_quotes.ensures in
     let b = back_is a.numbers.now p.new.numbers first hf in
     let z = back_long a.numbers.now first in
     let i = length-take-le (5 * length a.post.now) (take (length a.numbers.now - first) (drop first a.numbers.now)) (omega (arith, z, s, M.room.1.1)) in (
@@ -132,7 +132,7 @@ returns c = let a = c.args in
         left = (rw c.in_ok-size.was at g.0.laid, (w.1.1, there.words-there));
       },
       record {
-        room = omega (arith, few, s, M.near, M.room.1.1, p.auto.numbers, c.write_quotes.auto.numbers, c.move_front.auto.numbers);
+        room = omega (arith, few, s, M.near, M.room.1.1, p.auto.numbers, c.lay_quotes.auto.numbers, c.move_front.auto.numbers);
         few = w.1.0;
         there = c.move_front.ensures ∙ stays-taken first _ _ _ g.1 ∙ ap (take (5 * losses)) b ∙ sym (take-take (5 * losses) (5 * length a.post.now) p.new.numbers (omega (arith, few, M.near)))
             ∙ records-there a.post.now _ _ _ _ _ _ _ p.ensures.0.0 x e (omega (arith, few, i, M.near));

@@ -1,34 +1,7 @@
 use native.Mathlib.Omega.{arith}
-use mathlib.Core.Path.{sym}
-use lib.ListN.{length}
-use Rattle.post.proofs.Unchanged.{unlisted-ends}
-use Rattle.text.proofs.Clearing.{cells-bytes}
-use Rattle.text.proofs.Areas.{area-length}
-use Rattle.text.specs.Cells.{cells, part}
-use lib.Seq.{length-take-le}
-use lib.ListN.{take}
+use Rattle.post.proofs.Calling.{listing-with}
+use Rattle.post.proofs.Leaving.{left-ends}
 use Rattle.post.proofs.listed.write_unquoted.Goals as goal
 
-pub slice_bounds-no_lists-end : goal.slice_bounds-no_lists-end
-slice_bounds-no_lists-end c = let L = c.requires in omega (arith, L.areas)
-
-pub slice_bounds-no_lists-end-2 : goal.slice_bounds-no_lists-end-2
-slice_bounds-no_lists-end-2 c = let L = c.requires in sym (length-take-le c.args.k c.args.work.now (omega (arith, L.areas)))
-
-pub lay_part-requires : goal.lay_part-requires
-lay_part-requires c = let L = c.requires in ((omega arith, (omega (arith, L.areas), omega (arith, L.areas, L.room))), (L.order.1, omega (arith, L.order.1, L.lendable.1)))
-
-pub returns-then-no_lists : goal.returns-then-no_lists
-unfolding part
-returns-then-no_lists c = let x = c.args in
-    let L = c.requires in
-    let l = area-length x.work.now x.numbers.now x.k (omega (arith, L.areas)) (omega (arith, L.areas, L.room)) in
-    unlisted-ends (take x.k (cells x.work.now x.numbers.now)) (take x.k x.work.now) (length x.out.now) (cells-bytes x.k x.work.now x.numbers.now (omega (arith, L.areas)) (omega (arith, L.areas, L.room)))
-    (omega (arith, l, L.order.1)) (c.no_lists.ensures c.if-no_lists.true) (omega (arith, l)) c.lay_part.ensures
-
-pub write_lists-requires : goal.write_lists-requires
-write_lists-requires c = c.requires
-
 pub returns : goal.returns
-unfolding part
-returns c = c.write_lists.ensures.0
+returns c = let p = c.lay_unquoted-laid in rw (listing-with _ _ _ _) (left-ends (record { losses = 0; bytes = 0 }) _ _ _ p.ensures p.auto.out p.auto.origins (omega arith) c.leave.ensures)

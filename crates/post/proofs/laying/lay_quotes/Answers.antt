@@ -7,7 +7,7 @@ use Rattle.post.proofs.Calling.{or-refused, or-done, spaced-full, spaced-done, l
 use Rattle.quotes.proofs.Conversion.{quoted-within}
 use Rattle.quote_blocks.specs.Quotes.{too_deep}
 use lib.Seq.{length-take-le}
-use Rattle.post.proofs.quoted.write_quotes.Goals as goal
+use Rattle.post.proofs.laying.lay_quotes.Goals as goal
 
 pub overflow_mul-table : goal.overflow_mul-table
 overflow_mul-table c = let Q = c.requires in let h = quotable-room Q in omega (arith, h, Q.room, Q.small)
@@ -46,8 +46,8 @@ returns-in_err-passed c = let x = c.args in
     let p = err_from_is_err_and c.from_residual.result c.from_residual.ensures.1 in
     rw (p.1, p.2, ← o.1) (record { answer = spaced-full _ _ (omega (arith, f)); laid = tt }, stays-behind x.records.0 x.records.0 _ x.numbers.now q.new.numbers (q.auto.numbers ∙ l) (omega arith) (omega (arith, Q.room)))
 
-pub write_lists-requires : goal.write_lists-requires
-write_lists-requires c = let x = c.args in
+pub lay_lists-requires : goal.lay_lists-requires
+lay_lists-requires c = let x = c.args in
     let Q = c.requires in
     let m : ℕ = length x.out.now in
     let q = c.quote_pass in
@@ -75,8 +75,8 @@ returns c = let x = c.args in
     let w = quoted-within _ _ _ _ d.0.0 d.1.0 in
     let e = quoted-there x.k m x.records.0 _ x.work.now x.numbers.now _ _ (omega (arith, Q.areas.1)) (q.auto.numbers ∙ l) w.1 (omega (arith, Q.areas.1)) d.1.1 in
     let n = rw b at d.0.0 in
-    let r = rw e at c.write_lists.ensures.0 in (
+    let r = rw e at c.lay_lists.ensures.0 in (
       record { answer = r.answer ∙ spaced-done _ _ (omega (arith, n)); laid = r.laid },
-      stays-in _ _ x.records.0 _ _ _ (omega (arith, w.1, Q.areas.1)) (omega arith) c.write_lists.ensures.1
+      stays-in _ _ x.records.0 _ _ _ (omega (arith, w.1, Q.areas.1)) (omega arith) c.lay_lists.ensures.1
           ∙ stays-behind x.records.0 x.records.0 _ x.numbers.now q.new.numbers (q.auto.numbers ∙ l) (omega arith) (omega (arith, Q.room)),
     )
