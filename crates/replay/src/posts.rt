@@ -33,7 +33,9 @@ fn first_byte(s: &[u8]) -> Option<(u8, &[u8])> {
 }
 
 // The bytes that the line stands for that `s` begins with, as far as there is room.
-fn unescape<'a>(s: &[u8], room: &'a mut [u8]) -> &'a [u8] {
+fn unescape<'a>(s: &[u8], room: &'a mut [u8]) -> &'a [u8]
+    ensures { length result.now ≤ length room.old }
+{
     let mut rest = s;
     for n in 0..room.len() {
         let Some((b, behind)) = first_byte(rest) else {
